@@ -1,0 +1,5 @@
+pub mod Bits
+pub mod Capacity
+pub mod Place
+pub mod Shape
+pub mod Words
