@@ -1,0 +1,5 @@
+pub mod Attrs
+pub mod Field
+pub mod Num
+pub mod Prop
+pub mod Word
