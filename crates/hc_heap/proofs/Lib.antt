@@ -1,0 +1,7 @@
+pub mod Forms
+pub mod Places
+pub mod Ties
+pub mod Saying
+pub mod Stores
+pub mod Stays
+pub mod Keeping

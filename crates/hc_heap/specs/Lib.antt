@@ -1,0 +1,9 @@
+pub mod Writes
+pub mod Kinds
+pub mod Readings
+pub mod Decode
+pub mod Lawful
+pub mod States
+pub mod Said
+pub mod Kept
+pub mod Frames
