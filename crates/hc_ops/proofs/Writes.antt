@@ -1,0 +1,67 @@
+-- Lemmas on writing a property.
+use Rattle.std.proofs.Common.{◌≡◌, ℕ, zero, suc, ◌<◌, Bool, true, false, eqb, List, [], ◌∷◌, Option, Some, None, option_map, length, refl, sym, ap, subst, ◌∙◌, arith}
+use Rattle.std.specs.Prelude.{if◌then◌else◌, slice_get}
+use Rattle.std.proofs.lemmas.Bool.Decides.{Decides-eqb}
+use Rattle.hc_value.specs.Attrs.{is_read_only}
+use Rattle.hc_value.specs.declared.attrs.Attrs.{Attrs}
+use Rattle.hc_value.specs.declared.value.Value.{Value}
+use Rattle.hc_value.specs.declared.prop.Held.{Held}
+use Rattle.hc_value.specs.declared.prop.Held.TheVariants.{Datum, Pair}
+use Rattle.hc_value.specs.declared.prop.Prop.{Prop}
+use Rattle.hc_value.specs.declared.reply.Reply.TheVariants.{Flag}
+use Rattle.hc_table.specs.Attributes.{is_datum}
+use Rattle.hc_table.specs.World.{World, object, props_at, place_of, property_of, with_props, with_written}
+use Rattle.hc_ops.specs.Nearest.{Nearest, nearest, nearest_among, own_or_further}
+use Rattle.hc_ops.specs.Set.{Outcome, nearest_outcome, writable_outcome, create_outcome, with_value}
+use Rattle.hc_ops.proofs.Places.{same_some, IsPlace-from_place_of}
+
+-- an own writable data property is written in its place
+pub own_written : (w : World) (o name : ℕ) (value : Value) (holder : ℕ) (attrs : Attrs) (held : Held) (place : ℕ) → is_datum held ≡ true → is_read_only attrs ≡ false → holder ≡ o → place_of (props_at w o) name ≡ Some place → (nearest_outcome w o name value holder attrs held).world ≡ with_written w o place (Datum value)
+own_written w o name value holder attrs (Datum old) place datum writable same at =
+    ap (λ b. (if b then refused else writable_outcome w o name value holder).world) writable
+    ∙ ap (λ b. (if b then written else create_outcome w o name value).world) ((Decides-eqb holder o).1 same)
+    ∙ ap (with_props w o) ((IsPlace-from_place_of name (props_at w o) place at).written value)
+  where
+    refused : Outcome
+    refused = record { reply = Flag false; world = w }
+
+    written : Outcome
+    written = record { reply = Flag true; world = with_props w o (with_value (props_at w o) name value) }
+own_written w o name value holder attrs (Pair getter setter) place datum writable same at = absurd (cc)
+
+get-none : (ps : List Prop) (i : ℕ) → slice_get ps i ≡ None → i < length ps → ⊥
+get-none [] i h l = omega arith
+get-none (p ∷ ps) zero h l = absurd (cc)
+get-none (p ∷ ps) (suc i) h l = get-none ps i h (omega arith)
+
+holder_of : (found : Nearest) (o : ℕ) (p : Prop) → Some found ≡ Some (record { holder = o; property = p }) → found.holder ≡ o
+holder_of found o p e = ap (λ (x : Nearest). x.holder) (same_some found (record { holder = o; property = p }) e)
+
+-- an own property is the nearest
+module _ (w : World) (o name : ℕ) (there : o < length w) where
+  own_first : (n : ℕ) → 0 < n → (p : Prop) → property_of (props_at w o) name ≡ Some p → nearest_among n w (Some o) name ≡ Some (record { holder = o; property = p })
+  own_first zero h p e = absurd (omega arith)
+  own_first (suc n) h p e = ap (λ x. own_or_further o x (nearest_among n w (object w o).proto name)) e
+
+  pub own-is_nearest : (p : Prop) → property_of (props_at w o) name ≡ Some p → nearest w o name ≡ Some (record { holder = o; property = p })
+  own-is_nearest = own_first (length w) (omega arith)
+
+  -- where there is none, or another object holds it, the object lacks the name
+  lacks : (found : Option Nearest) → nearest w o name ≡ found → ((p : Prop) → found ≡ Some (record { holder = o; property = p }) → ⊥) → place_of (props_at w o) name ≡ None
+  lacks found e other = by (place_of (props_at w o) name) refl
+    where
+      by : (place : Option ℕ) → place_of (props_at w o) name ≡ place → place ≡ None
+      by None k = refl
+      by (Some i) k =
+          let at = IsPlace-from_place_of name (props_at w o) i k in
+          absurd (from (slice_get (props_at w o) i) refl at.property at.within)
+        where
+          from : (found_there : Option Prop) → slice_get (props_at w o) i ≡ found_there → property_of (props_at w o) name ≡ slice_get (props_at w o) i → i < length (props_at w o) → ⊥
+          from (Some p) g at within = other p (sym e ∙ own-is_nearest p (at ∙ g))
+          from None g at within = get-none (props_at w o) i g within
+
+  pub lacks-none : nearest w o name ≡ None → place_of (props_at w o) name ≡ None
+  lacks-none e = lacks None e (λ p k. absurd (cc))
+
+  pub lacks-other : (found : Nearest) → nearest w o name ≡ Some found → (found.holder ≡ o → ⊥) → place_of (props_at w o) name ≡ None
+  lacks-other found e other = lacks (Some found) e (λ p k. other (holder_of found o p k))

@@ -1,0 +1,12 @@
+pub mod Act
+pub mod Define
+pub mod Delete
+pub mod Found
+pub mod Get
+pub mod Has
+pub mod Integrity
+pub mod Keys
+pub mod Nearest
+pub mod Set
+pub mod SetDid
+pub mod Spots
