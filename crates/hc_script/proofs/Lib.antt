@@ -1,0 +1,13 @@
+pub mod Apart
+pub mod Breaks
+pub mod Content
+pub mod FirstWord
+pub mod Lines
+pub mod NamesAfter
+pub mod Numerals
+pub mod OneMeaning
+pub mod Passing
+pub mod Skipping
+pub mod Spelling
+pub mod Taking
+pub mod Turns

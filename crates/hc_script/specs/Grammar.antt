@@ -1,0 +1,152 @@
+-- The forms of a command line, each with its words.
+use Rattle.std.specs.Prelude.{◌≡◌, ℕ, ◌<◌, ◌≤◌, ◌^◌, ℤ, Bool, true, false, not, ◌&&◌, ◌||◌, List, [], ◌∷◌, ◌++◌, length, None, codes, nat_le, ◌==◌}
+use Rattle.std.specs.List.{list_all}
+use Rattle.std.specs.Fmt.{decimal, signed_decimal}
+use Rattle.hc_value.specs.Num.{IsSafeInteger}
+use Rattle.hc_value.specs.declared.value.Value.{Value}
+use Rattle.hc_value.specs.declared.value.Value.TheVariants.{Undefined, Null, Bool as Boolean, Int, Text, Obj}
+use Rattle.hc_names.specs.Names.{number_of, with_text}
+use Rattle.hc_script.specs.declared.command.Command.{Command}
+use Rattle.hc_script.specs.declared.command.Command.TheVariants.{New, Get, Set}
+
+-- a letter, `_` or `$`
+abbrev pub begins_name : ℕ → Bool
+begins_name byte =
+    (nat_le 65 byte && nat_le byte 90) || ((nat_le 97 byte && nat_le byte 122) || ((byte == 95) || (byte == 36)))
+
+-- one of these or a digit
+abbrev pub continues_name : ℕ → Bool
+continues_name byte = begins_name byte || (nat_le 48 byte && nat_le byte 57)
+
+abbrev pub is_name_text : List ℕ → Bool
+is_name_text [] = false
+is_name_text (byte ∷ bytes) = begins_name byte && list_all continues_name bytes
+
+-- a property's name: 1 to 64 such bytes, the first no digit
+pub record IsName (text : List ℕ) : Type 0 where
+  pub spelling : is_name_text text ≡ true
+  pub short : length text ≤ 64
+
+-- a printable byte other than a quote and a backslash
+abbrev pub is_text_byte : ℕ → Bool
+is_text_byte byte = (nat_le 32 byte && nat_le byte 126) && (not (byte == 34) && not (byte == 92))
+
+-- what stands between the quotes of a text: at most 1,024 such bytes
+pub record IsText (text : List ℕ) : Type 0 where
+  pub spelling : list_all is_text_byte text ≡ true
+  pub short : length text ≤ 1024
+
+-- a value as its word has it, with a text as its bytes
+pub data WrittenValue : Type 0 where
+  written_undefined : WrittenValue
+  written_null : WrittenValue
+  written_boolean : Bool → WrittenValue
+  written_integer : ℤ → WrittenValue
+  written_text : List ℕ → WrittenValue
+  written_object : ℕ → WrittenValue
+
+-- texts, and numbers in their ranges
+abbrev pub IsWrittenValue : WrittenValue → Type 0
+IsWrittenValue written_undefined = Unit {0}
+IsWrittenValue written_null = Unit {0}
+IsWrittenValue (written_boolean b) = Unit {0}
+IsWrittenValue (written_integer integer) = IsSafeInteger integer
+IsWrittenValue (written_text text) = IsText text
+IsWrittenValue (written_object o) = o < 2 ^ 32
+
+-- `#` and the number of an object
+abbrev pub object_word : ℕ → List ℕ
+object_word o = 35 ∷ decimal o
+
+-- a text between quotes
+abbrev pub text_word : List ℕ → List ℕ
+text_word text = 34 ∷ (text ++ 34 ∷ [])
+
+-- the word of a value
+abbrev pub value_word : WrittenValue → List ℕ
+value_word written_undefined = codes "undefined"
+value_word written_null = codes "null"
+value_word (written_boolean true) = codes "true"
+value_word (written_boolean false) = codes "false"
+value_word (written_integer integer) = signed_decimal integer
+value_word (written_text text) = text_word text
+value_word (written_object o) = object_word o
+
+-- the word of no value
+abbrev pub WritesNoValue : List ℕ → Type 0
+WritesNoValue word = (value : WrittenValue) → IsWrittenValue value → word ≡ value_word value → ⊥
+
+-- the value, with its text as its number
+abbrev pub value_of : List (List ℕ) → WrittenValue → Value
+value_of names written_undefined = Undefined
+value_of names written_null = Null
+value_of names (written_boolean b) = Boolean b
+value_of names (written_integer integer) = Int integer
+value_of names (written_text text) = Text (number_of names text)
+value_of names (written_object o) = Obj o
+
+-- the names after it
+abbrev pub names_behind : List (List ℕ) → WrittenValue → List (List ℕ)
+names_behind names written_undefined = names
+names_behind names written_null = names
+names_behind names (written_boolean b) = names
+names_behind names (written_integer integer) = names
+names_behind names (written_text text) = with_text names text
+names_behind names (written_object o) = names
+
+-- a command as its line has it, with names as their texts
+pub data Form : Type 0 where
+  new_object : Form
+  get_property : ℕ → List ℕ → Form
+  set_value : ℕ → List ℕ → WrittenValue → Form
+
+-- numbers of objects, names and values in their ranges
+abbrev pub IsForm : Form → Type 0
+IsForm new_object = Unit {0}
+IsForm (get_property o name) = (o < 2 ^ 32) × IsName name
+IsForm (set_value o name value) = (o < 2 ^ 32) × IsName name × IsWrittenValue value
+
+-- the words of a command
+abbrev pub words_for : Form → List (List ℕ)
+words_for new_object = codes "new" ∷ codes "null" ∷ []
+words_for (get_property o name) = codes "get" ∷ object_word o ∷ name ∷ []
+words_for (set_value o name value) = codes "set" ∷ object_word o ∷ name ∷ value_word value ∷ []
+
+-- the command, with its names as their numbers: they are interned from left to right
+abbrev pub command_of : List (List ℕ) → Form → Command
+command_of names new_object = New None
+command_of names (get_property o name) = Get o (number_of names name)
+command_of names (set_value o name value) = Set o (number_of names name) (value_of (with_text names name) value)
+
+-- the names after it
+abbrev pub names_after : List (List ℕ) → Form → List (List ℕ)
+names_after names new_object = names
+names_after names (get_property o name) = with_text names name
+names_after names (set_value o name value) = names_behind (with_text names name) value
+
+-- the words are those of a command, and these are the command and the names after it
+pub record AsksFor (names words : List (List ℕ)) (command : Command) (after : List (List ℕ)) : Type 0 where
+  pub form : Form
+  pub is_form : IsForm form
+  pub spelling : words ≡ words_for form
+  pub command_is : command ≡ command_of names form
+  pub names_are : after ≡ names_after names form
+
+-- the words of no command
+abbrev pub HaveNoForm : List (List ℕ) → Type 0
+HaveNoForm words = (form : Form) → IsForm form → words ≡ words_for form → ⊥
+
+-- the value's text has a number below this one
+abbrev pub IsValueBelow : ℕ → Value → Type 0
+IsValueBelow count (Text text) = text < count
+IsValueBelow count Undefined = Unit {0}
+IsValueBelow count Null = Unit {0}
+IsValueBelow count (Boolean b) = Unit {0}
+IsValueBelow count (Int integer) = Unit {0}
+IsValueBelow count (Obj o) = Unit {0}
+
+-- the command's name and text have numbers below this one
+abbrev pub IsCommandBelow : ℕ → Command → Type 0
+IsCommandBelow count (New prototype) = Unit {0}
+IsCommandBelow count (Get o name) = name < count
+IsCommandBelow count (Set o name value) = (name < count) × IsValueBelow count value

@@ -1,0 +1,81 @@
+-- What a line means by itself.
+use Rattle.std.specs.Prelude.{◌≡◌, ◌⊎◌, ℕ, ◌-◌, ◌<◌, ◌≤◌, Bool, List, true, false, ◌&&◌, length, take, slice_index, nat_le, ◌==◌, if◌then◌else◌}
+use Rattle.std.specs.List.{list_all}
+use Rattle.hc_names.specs.declared.TheConstants.{MAX_NAMES}
+use Rattle.hc_script.specs.Words.{words_of, is_skipped}
+use Rattle.hc_script.specs.Grammar.{Form, IsForm, words_for, names_after, AsksFor, HaveNoForm}
+use Rattle.hc_script.specs.Later.{AreUnbuilt}
+use Rattle.hc_script.specs.declared.command.Command.{Command}
+use Rattle.hc_script.specs.declared.fault.What.{What}
+use Rattle.hc_script.specs.declared.fault.What.TheVariants.{Form as FormWord, Long, Size, Names, Unbuilt}
+use Rattle.hc_script.specs.declared.limits.TheConstants.{MAX_LINE}
+use Rattle.hc_script.specs.declared.line.Meaning.{Meaning}
+use Rattle.hc_script.specs.declared.line.Meaning.TheVariants.{Nothing, Asked, Refused}
+
+-- a line without the newline that ends it
+abbrev pub content : List ℕ → List ℕ
+content line = if slice_index line (length line - 1) == 10 then take (length line - 1) line else line
+
+-- the line has more bytes than a line may have
+abbrev pub IsLong : List ℕ → Type 0
+IsLong line = MAX_LINE < length (content line)
+
+abbrev pub IsShort : List ℕ → Type 0
+IsShort line = length (content line) ≤ MAX_LINE
+
+-- a byte that a command may have
+abbrev pub is_plain_byte : ℕ → Bool
+is_plain_byte byte = nat_le 32 byte && nat_le byte 126
+
+abbrev pub is_plain : List ℕ → Bool
+is_plain line = list_all is_plain_byte (content line)
+
+-- a line of few enough bytes that asks for something
+pub record IsQuestion (line : List ℕ) : Type 0 where
+  pub short : IsShort line
+  pub unskipped : is_skipped line ≡ false
+
+-- the words are those of no command that is built or to be built
+pub record HaveNoMeaning (words : List (List ℕ)) : Type 0 where
+  pub not_unbuilt : AreUnbuilt words → ⊥
+  pub no_form : HaveNoForm words
+
+-- the line is refused wherever it stands: as too long; for a byte, or for words that have no meaning; for a command
+-- that isn't built
+abbrev pub IsRefusedAnywhere : List ℕ → What → Type 0
+IsRefusedAnywhere line Size = ⊥
+IsRefusedAnywhere line Long = IsLong line
+IsRefusedAnywhere line FormWord =
+    IsQuestion line × ((is_plain line ≡ false) ⊎ ((is_plain line ≡ true) × HaveNoMeaning (words_of line)))
+IsRefusedAnywhere line Unbuilt = IsQuestion line × (is_plain line ≡ true) × AreUnbuilt (words_of line)
+IsRefusedAnywhere line Names = ⊥
+
+-- the line asks for a command, and there would be too many names after it
+pub record AsksForTooMany (names : List (List ℕ)) (line : List ℕ) : Type 0 where
+  pub question : IsQuestion line
+  pub plain : is_plain line ≡ true
+  pub form : Form
+  pub is_form : IsForm form
+  pub spelling : words_of line ≡ words_for form
+  pub too_many : MAX_NAMES < length (names_after names form)
+
+-- the line is refused behind these names
+abbrev pub IsRefusedBehind : List (List ℕ) → List ℕ → What → Type 0
+IsRefusedBehind names line Size = ⊥
+IsRefusedBehind names line Long = IsRefusedAnywhere line Long
+IsRefusedBehind names line FormWord = IsRefusedAnywhere line FormWord
+IsRefusedBehind names line Unbuilt = IsRefusedAnywhere line Unbuilt
+IsRefusedBehind names line Names = AsksForTooMany names line
+
+-- the line asks for a command, behind these names
+pub record IsUnderstood (names : List (List ℕ)) (line : List ℕ) (command : Command) (after : List (List ℕ)) : Type 0 where
+  pub question : IsQuestion line
+  pub plain : is_plain line ≡ true
+  pub asks : AsksFor names (words_of line) command after
+  pub room : length after ≤ MAX_NAMES
+
+-- nothing, a command with the names after it, or no command
+abbrev pub Means : List (List ℕ) → List ℕ → Meaning → List (List ℕ) → Type 0
+Means names line Nothing after = IsShort line × (is_skipped line ≡ true) × (after ≡ names)
+Means names line (Asked command) after = IsUnderstood names line command after
+Means names line (Refused what) after = IsRefusedBehind names line what

@@ -1,0 +1,33 @@
+//! The script: where its bytes come from and where the output goes, its lines, their words, and the command
+//! that each line asks for.
+#![tactic(auto)]
+
+mod buffer;
+mod bytes;
+mod command;
+mod fault;
+mod fetch;
+mod grammar;
+mod later;
+pub mod laws;
+mod limits;
+mod line;
+mod memory;
+mod numeral;
+mod outside;
+mod reader;
+mod script;
+mod token;
+mod words;
+mod written;
+
+pub use bytes::{Bytes, Calls, Cuts};
+pub use command::Command;
+pub use fault::{Failed, ScriptFault, Status, What};
+pub use memory::{MemSink, MemSource};
+pub use outside::{Sink, Source};
+pub use reader::{Phase, ScriptReader};
+pub use script::Script;
+
+#[cfg(test)]
+mod tests;
