@@ -1,0 +1,26 @@
+use Rattle.std.proofs.Common.{◌≡◌, ◌≤◌, ◌-◌, length}
+use Rattle.hc_script.specs.Lines.{ahead}
+use Rattle.hc_script.specs.declared.limits.TheConstants.{MAX_BYTES}
+use Rattle.hc_script.specs.declared.reader.Phase.TheVariants.{Going}
+use Rattle.hc_session.specs.Named.{IsNamedWorld}
+use Rattle.hc_session.specs.Progress.{Progress}
+use Rattle.hc_session.specs.Replay.{the_first_place}
+use Rattle.hc_session.proofs.replaying.replay_lines.Given as goal
+
+-- the lines so far were answered, and their text was written
+abbrev pub invariant-commands : goal.invariant-commands
+invariant-commands g l =
+    let left = g.S.Source.left in
+    let taken = g.K.Sink.taken in
+    record {
+      going : l.reader.phase ≡ Going;
+      within : l.reader.at.bytes ≤ MAX_BYTES;
+      progress : Progress (the_first_place l.initial.session.state) (left l.initial.source) (taken l.initial.sink)
+          (record { at = l.reader.at; state = l.session.state }) (ahead l.reader.pending (left l.source)) (taken l.sink);
+      named : IsNamedWorld (length l.reader.at.names) l.session.state.world;
+      reads : g.S.Source.faults l.initial.source ≤ g.S.Source.faults l.source;
+      writes : g.K.Sink.faults l.initial.sink ≤ g.K.Sink.faults l.sink;
+    }
+
+abbrev pub decreases-commands : goal.decreases-commands
+decreases-commands g l = MAX_BYTES - l.reader.at.bytes

@@ -1,0 +1,9 @@
+pub mod Answer
+pub mod Fault
+pub mod Fresh
+pub mod Named
+pub mod Output
+pub mod Progress
+pub mod Replay
+pub mod State
+pub mod Text

@@ -1,0 +1,43 @@
+-- Each text that stands in the objects, in a command or in a reply has its number among the names.
+use Rattle.std.specs.Prelude.{ℕ, List, [], ◌∷◌}
+use Rattle.hc_value.specs.declared.prop.Held.{Held}
+use Rattle.hc_value.specs.declared.prop.Held.TheVariants.{Datum, Pair}
+use Rattle.hc_value.specs.declared.prop.Prop.{Prop}
+use Rattle.hc_value.specs.declared.reply.Reply.{Reply}
+use Rattle.hc_value.specs.declared.reply.Reply.TheVariants.{Object, Val, Call, CallWith, Flag, Property, NameList, Proto, Shape, Site, Job, Fine, Finished, NoObject, NoSite, NoJob, WrongSite, NoRoom, Full}
+use Rattle.hc_script.specs.Grammar.{IsValueBelow}
+use Rattle.hc_table.specs.World.{World, props_at}
+
+abbrev pub IsNamedHeld : ℕ → Held → Type 0
+IsNamedHeld count (Datum value) = IsValueBelow count value
+IsNamedHeld count (Pair getter setter) = Unit {0}
+
+abbrev pub AreNamedProps : ℕ → List Prop → Type 0
+AreNamedProps count [] = Unit {0}
+AreNamedProps count (p ∷ ps) = IsNamedHeld count p.held × AreNamedProps count ps
+
+-- the objects hold texts with such numbers alone
+abbrev pub IsNamedWorld : ℕ → World → Type 0
+IsNamedWorld count w = (o : ℕ) → AreNamedProps count (props_at w o)
+
+-- the reply is one of a built command, and its text has such a number
+abbrev pub IsShown : ℕ → Reply → Type 0
+IsShown count (Object o) = Unit {0}
+IsShown count (Val value) = IsValueBelow count value
+IsShown count (Call f o) = Unit {0}
+IsShown count (CallWith f o value) = IsValueBelow count value
+IsShown count (Flag b) = Unit {0}
+IsShown count NoObject = Unit {0}
+IsShown count Full = Unit {0}
+IsShown count (Property property) = ⊥
+IsShown count (NameList list) = ⊥
+IsShown count (Proto proto) = ⊥
+IsShown count (Shape mode) = ⊥
+IsShown count (Site site) = ⊥
+IsShown count (Job job) = ⊥
+IsShown count Fine = ⊥
+IsShown count Finished = ⊥
+IsShown count NoSite = ⊥
+IsShown count NoJob = ⊥
+IsShown count WrongSite = ⊥
+IsShown count NoRoom = ⊥

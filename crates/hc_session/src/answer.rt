@@ -1,0 +1,54 @@
+ghost use Rattle.std.specs.Prelude.{◌≡◌, ◌≤◌, length, OnOk, IsErrOf};
+ghost use Rattle.hc_names.specs.declared.TheConstants.{MAX_NAMES};
+ghost use Rattle.hc_script.specs.Outside.{AppendsBytes, Rose};
+ghost use Rattle.hc_script.specs.Grammar.{IsCommandBelow};
+ghost use Rattle.hc_session.specs.Named.{IsNamedWorld};
+ghost use Rattle.hc_session.specs.Answer.{AnswersCommand, AnswersPartly};
+ghost use Rattle.hc_session.specs.State.{IsBuilt};
+
+use crate::report::render_reply;
+use crate::write::write_piece;
+use crate::{Scripted, Session};
+use hc_names::Names;
+use hc_script::{Command, Sink};
+
+/// Why a run ends in the midst of a command.
+#[derive(Clone, Copy, Debug, PartialEq, Eq)]
+pub enum Halt {
+    Memory,
+    Write,
+}
+
+/// Performs a command and writes the line of its reply. The text is a buffer.
+pub fn answer<K: Sink>(
+    session: &mut Session<Scripted>,
+    names: &Names,
+    command: &Command,
+    text: &mut Vec<u8>,
+    sink: &mut K,
+) -> Result<(), Halt>
+    requires built { IsBuilt command.now }
+    requires names { length names.now ≤ MAX_NAMES }
+    requires world { IsNamedWorld (length names.now) session.old.state.world }
+    requires command { IsCommandBelow (length names.now) command.now }
+    ensures ok { OnOk result (AnswersCommand session.old.state names.now command.now session.new.state
+        (K.taken sink.old) (K.taken sink.new)) }
+    ensures world { OnOk result (IsNamedWorld (length names.now) session.new.state.world) }
+    ensures memory { IsErrOf result Halt.Memory → K.taken sink.new ≡ K.taken sink.old }
+    ensures write { IsErrOf result Halt.Write → AnswersPartly session.old.state names.now command.now
+        (K.taken sink.old) (K.taken sink.new) }
+    ensures cause { IsErrOf result Halt.Write → Rose (K.faults sink.old) (K.faults sink.new) }
+    ensures grows { K.faults sink.old ≤ K.faults sink.new }
+{
+    let Ok(reply) = session.command(command) else {
+        return Err(Halt::Memory);
+    };
+    text.clear();
+    if render_reply(text, names, &reply).is_err() {
+        return Err(Halt::Memory);
+    }
+    match write_piece(sink, text) {
+        Ok(()) => Ok(()),
+        Err(_) => Err(Halt::Write),
+    }
+}

@@ -1,0 +1,69 @@
+ghost use Rattle.std.specs.Prelude.{◌≡◌, None, IfOk, OnErr, nat_lt, length};
+ghost use Rattle.hc_script.specs.declared.command.Command.TheVariants.{New};
+ghost use Rattle.hc_session.specs.State.{IsBuilt, HasNumbers, Does, names_there};
+
+use hc_ops::{get, set};
+use hc_script::Command;
+use hc_table::{TableFault, Tables};
+use hc_value::{Memory, Reply, Value};
+
+/// Performs a command on the objects, however they are kept.
+pub fn perform<T: Tables>(tables: &mut T, command: &Command) -> Result<Reply, Memory>
+    requires built { IsBuilt command.now }
+    requires numbers { HasNumbers command.now }
+    ensures done { IfOk result (λ reply. Does (record { world = T.world tables.old; limit = T.limit tables.old })
+        command.now reply (record { world = T.world tables.new; limit = T.limit tables.new })) }
+    ensures err { OnErr result (T.world tables.new ≡ T.world tables.old) }
+    ensures limit { T.limit tables.new ≡ T.limit tables.old }
+{
+    match command {
+        Command::New(_) => create(tables),
+        Command::Get(o, name) => {
+            if !is_object(tables, *o) {
+                return Ok(Reply::NoObject);
+            }
+            Ok(get(tables, *o, *name))
+        }
+        Command::Set(o, name, value) => {
+            if !is_object(tables, *o) || !is_value_there(tables, value) {
+                return Ok(Reply::NoObject);
+            }
+            set(tables, *o, *name, *value)
+        }
+    }
+}
+
+// Makes an object, if there may be one more.
+fn create<T: Tables>(tables: &mut T) -> Result<Reply, Memory>
+    ensures done { IfOk result (λ reply. Does (record { world = T.world tables.old; limit = T.limit tables.old })
+        (New None) reply (record { world = T.world tables.new; limit = T.limit tables.new })) }
+    ensures err { OnErr result (T.world tables.new ≡ T.world tables.old) }
+    ensures limit { T.limit tables.new ≡ T.limit tables.old }
+{
+    match tables.create(None) {
+        Ok(o) => Ok(Reply::Object(o)),
+        Err(TableFault::Full) => Ok(Reply::Full),
+        Err(TableFault::Memory) => Err(Memory),
+    }
+}
+
+// Whether an object is there.
+fn is_object<T: Tables>(tables: &mut T, o: u32) -> bool
+    ensures there { result ≡ nat_lt o (length (T.world tables.old)) }
+    ensures same { T.world tables.new ≡ T.world tables.old }
+    ensures limit { T.limit tables.new ≡ T.limit tables.old }
+{
+    o < tables.count()
+}
+
+// Whether the object that a value names is there.
+fn is_value_there<T: Tables>(tables: &mut T, value: &Value) -> bool
+    ensures there { result ≡ names_there (record { world = T.world tables.old; limit = T.limit tables.old }) value.now }
+    ensures same { T.world tables.new ≡ T.world tables.old }
+    ensures limit { T.limit tables.new ≡ T.limit tables.old }
+{
+    match value {
+        Value::Obj(o) => is_object(tables, *o),
+        _ => true,
+    }
+}

@@ -1,0 +1,145 @@
+ghost use Rattle.std.specs.Prelude.{◌≡◌, ◌⊎◌, ◌↔◌, ◌≤◌, ℕ, [], true, codes, map, string_bytes, IfSome, IsTrue};
+ghost use Rattle.hc_script.specs.Lines.{ahead};
+ghost use Rattle.hc_script.specs.Outside.{Rose};
+ghost use Rattle.hc_script.specs.Reader.{the_new_reader};
+ghost use Rattle.hc_session.specs.Progress.{EndsByFault};
+ghost use Rattle.hc_session.specs.Replay.{AskForReplay, WritesReplay, WritesUsage, IsFirstRefused, AreAllAccepted, IsCutShort, EndsWith, the_first_place};
+
+use crate::answer::{Halt, answer};
+use crate::report::render_refusal;
+use crate::write::write_piece;
+use crate::{Scripted, Session};
+use hc_script::laws::{commands_are_named, lines_have_one_meaning};
+use hc_script::{ScriptFault, ScriptReader, Sink, Source, Status, What};
+
+/// Replays a script: reads its lines in order, performs each command, and writes each reply before the next line
+/// is taken. `words` are the program's, behind its name.
+pub fn replay<S: Source, K: Sink>(
+    words: &[String],
+    source: &mut S,
+    sink: &mut K,
+    session: &mut Session<Scripted>,
+) -> Status
+    requires { session.old.fresh ≡ true }
+
+    // What is written: the replies of a run over the lines, and the line of a fault; or the usage.
+    ensures written { AskForReplay (map string_bytes words.now) → WritesReplay (the_first_place session.old.state)
+        (S.left source.old) (S.left source.new) (K.taken sink.old) result (K.taken sink.new) }
+    ensures usage { (AskForReplay (map string_bytes words.now) → ⊥) → WritesUsage (K.taken sink.old) result (K.taken sink.new) }
+
+    // The first line that is refused ends the run by its number and word, or a fault or want of memory came before.
+    ensures refused { AskForReplay (map string_bytes words.now) → IfSome (S.left source.old) (λ bytes. (n : ℕ) (what : What)
+        → IsFirstRefused bytes n what → (result ≡ Status.BadScript n what)
+        ⊎ IsCutShort result (S.faults source.old) (S.faults source.new) (K.faults sink.old) (K.faults sink.new)) }
+    // Where each line is accepted the run is done, or a fault or want of memory came before.
+    ensures complete { AskForReplay (map string_bytes words.now) → IfSome (S.left source.old) (λ bytes.
+        AreAllAccepted bytes → (result ≡ Status.Done)
+        ⊎ IsCutShort result (S.faults source.old) (S.faults source.new) (K.faults sink.old) (K.faults sink.new)) }
+
+    ensures read { result ≡ Status.ReadFault → Rose (S.faults source.old) (S.faults source.new) }
+    ensures write { result ≡ Status.WriteFault → Rose (K.faults sink.old) (K.faults sink.new) }
+{
+    lines_have_one_meaning();
+    replay_words(words, source, sink, session)
+}
+
+// A replay, of which the clauses above follow.
+fn replay_words<S: Source, K: Sink>(
+    words: &[String],
+    source: &mut S,
+    sink: &mut K,
+    session: &mut Session<Scripted>,
+) -> Status
+    requires { session.old.fresh ≡ true }
+    ensures written { AskForReplay (map string_bytes words.now) → WritesReplay (the_first_place session.old.state)
+        (S.left source.old) (S.left source.new) (K.taken sink.old) result (K.taken sink.new) }
+    ensures usage { (AskForReplay (map string_bytes words.now) → ⊥) → WritesUsage (K.taken sink.old) result (K.taken sink.new) }
+    ensures read { result ≡ Status.ReadFault → Rose (S.faults source.old) (S.faults source.new) }
+    ensures write { result ≡ Status.WriteFault → Rose (K.faults sink.old) (K.faults sink.new) }
+{
+    if !ask_for_replay(words) {
+        return end_with(sink, b"! usage\n", Status::BadWords);
+    }
+    let alloc = session.allocator();
+    let Ok(mut reader) = ScriptReader::new(alloc) else {
+        return Status::Memory;
+    };
+    let mut text = Vec::new(alloc);
+    replay_lines(source, sink, session, &mut reader, &mut text)
+}
+
+// Whether the words are the one word `replay`.
+fn ask_for_replay(words: &[String]) -> bool
+    ensures { IsTrue result ↔ AskForReplay (map string_bytes words.now) }
+{
+    match words {
+        [word] => is_replay(word),
+        _ => false,
+    }
+}
+
+fn is_replay(word: &String) -> bool
+    ensures { IsTrue result ↔ (string_bytes word.now ≡ codes "replay") }
+{
+    word.as_str() == "replay"
+}
+
+// Writes the last line of the output.
+fn end_with<K: Sink>(sink: &mut K, line: &[u8], status: Status) -> Status
+    ensures written { EndsWith (K.taken sink.old) line.now status result (K.taken sink.new) }
+    ensures cause { result ≡ status ⊎ Rose (K.faults sink.old) (K.faults sink.new) }
+    ensures grows { K.faults sink.old ≤ K.faults sink.new }
+{
+    match write_piece(sink, line) {
+        Ok(()) => status,
+        Err(_) => Status::WriteFault,
+    }
+}
+
+// Answers the commands that a new reader finds, one after another.
+fn replay_lines<S: Source, K: Sink>(
+    source: &mut S,
+    sink: &mut K,
+    session: &mut Session<Scripted>,
+    reader: &mut ScriptReader,
+    text: &mut Vec<u8>,
+) -> Status
+    requires reader { reader.old ≡ the_new_reader }
+    requires world { session.old.state.world ≡ [] }
+    ensures written { WritesReplay (the_first_place session.old.state)
+        (S.left source.old) (S.left source.new) (K.taken sink.old) result (K.taken sink.new) }
+    ensures read { result ≡ Status.ReadFault → Rose (S.faults source.old) (S.faults source.new) }
+    ensures write { result ≡ Status.WriteFault → Rose (K.faults sink.old) (K.faults sink.new) }
+{
+    commands_are_named();
+    'commands: loop {
+        match reader.next(source) {
+            Ok(Some(command)) => match answer(session, reader.names(), &command, text, sink) {
+                Ok(()) => {}
+                Err(Halt::Memory) => return Status::Memory,
+                Err(Halt::Write) => return Status::WriteFault,
+            },
+            Ok(None) => return Status::Done,
+            Err(fault) => return end_by_fault(fault, text, sink),
+        }
+    }
+}
+
+// Writes the line of a fault of the reader.
+fn end_by_fault<K: Sink>(fault: ScriptFault, text: &mut Vec<u8>, sink: &mut K) -> Status
+    ensures written { EndsByFault (K.taken sink.old) fault result (K.taken sink.new) }
+    ensures write { result ≡ Status.WriteFault → Rose (K.faults sink.old) (K.faults sink.new) }
+    ensures grows { K.faults sink.old ≤ K.faults sink.new }
+{
+    match fault {
+        ScriptFault::Bad(n, what) => {
+            text.clear();
+            if render_refusal(text, n, what).is_err() {
+                return Status::Memory;
+            }
+            end_with(sink, text, Status::BadScript(n, what))
+        }
+        ScriptFault::Read => end_with(sink, b"! read\n", Status::ReadFault),
+        ScriptFault::Memory => Status::Memory,
+    }
+}
