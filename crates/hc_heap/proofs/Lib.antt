@@ -5,3 +5,4 @@ pub mod Saying
 pub mod Stores
 pub mod Stays
 pub mod Keeping
+pub mod Holding

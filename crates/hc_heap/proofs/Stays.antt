@@ -76,7 +76,7 @@ holds-case : {T : Type 0} (R : ℕ → T) (P : T → Type 0) (n x : ℕ) (new : 
 holds-case R P n x new true e step holds = step (subst (λ (y : ℕ). P (R y)) (sym (eqb-true n x e)) holds)
 holds-case R P n x new false e step holds = holds
 
-holds-on : {T : Type 0} (R : ℕ → T) (P : T → Type 0) (n x : ℕ) (new : T) → (P (R n) → P new) → P (R x) → P (cond (eqb n x) new (R x))
+pub holds-on : {T : Type 0} (R : ℕ → T) (P : T → Type 0) (n x : ℕ) (new : T) → (P (R n) → P new) → P (R x) → P (cond (eqb n x) new (R x))
 holds-on R P n x new step holds = holds-case R P n x new (eqb n x) refl step holds
 
 pub unstable-stays : (s : Shape) (t : Trail) (w : Write) (m : ℕ) → LawfulWrite s t w → IsTrue (bits_in t m).unstable → IsTrue (bits_in (w ∷ t) m).unstable

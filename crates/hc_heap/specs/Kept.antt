@@ -7,11 +7,13 @@ use Rattle.hc_layout.specs.declared.shape.Shape.{Shape}
 use Rattle.hc_layout.specs.declared.capacity.TheConstants.{MAX_FAST}
 use Rattle.hc_layout.specs.declared.words.GateWord.{GateWord}
 use Rattle.hc_layout.specs.declared.words.CellWord.{CellWord}
+use Rattle.hc_value.specs.Field.{IsClassInRange}
 use Rattle.hc_value.specs.declared.field.Detail.{Detail}
+use Rattle.hc_value.specs.declared.key.Key.{Key}
 use Rattle.hc_heap.specs.Writes.{Write, Trail}
 use Rattle.hc_heap.specs.Decode.{typed}
 use Rattle.hc_heap.specs.Readings.{gate_in, parent_in, prototype_in, bits_in, base_in, entry_key_in, reference_in, owner_in, detail_in, link_key_in, link_child_in, link_next_in, map_in, root_in, store_in, validity_in}
-use Rattle.hc_heap.specs.Lawful.{Lawful, RisesTo, HaveEntries, IsAmong, AllWithin, key_from, field_from}
+use Rattle.hc_heap.specs.Lawful.{Lawful, RisesTo, HaveEntries, IsAmong, AllWithin, IsKey, IsClassThere, AreSlots, key_from, field_from}
 use Rattle.hc_heap.specs.Kinds.{region_of, place_at}
 use Rattle.hc_heap.specs.Said.{Says, SaysNothing}
 use Rattle.hc_heap.specs.declared.kind.Kind.{Kind}
@@ -108,6 +110,18 @@ pub record IsOpen (t : Trail) (m : ℕ) (g : GateWord) : Type 0 where
 
 abbrev pub GatesAreOpen : Type 0
 GatesAreOpen = (s : Shape) (t : Trail) (m : ℕ) (g : GateWord) → Lawful s t → gate_in t m ≡ Some g → IsOpen t m g
+
+-- what a word says is of the form that its write asked, and names what is there
+pub record FormsHold (s : Shape) (t : Trail) : Type 0 where
+  pub entry_key : (e : ℕ) (key : Key) → entry_key_in t e ≡ Some key → IsKey key
+  pub reference : (e f : ℕ) → reference_in t e ≡ Some f → f < s.fields
+  pub class : (f : ℕ) (d : Detail) → detail_in t f ≡ Some d → IsClassInRange d.class × IsClassThere s t d.class
+  pub link_key : (l : ℕ) (key : Key) → link_key_in t l ≡ Some key → IsKey key
+  pub prototype : (m o : ℕ) → prototype_in t m ≡ Some (Some o) → (o < s.objects) × IsTrue (root_in t o).is_proto
+  pub slots : (o : ℕ) → AreSlots s (store_in t o)
+
+abbrev pub FormsAreKept : Type 0
+FormsAreKept = (s : Shape) (t : Trail) → Lawful s t → FormsHold s t
 
 -- at each position a word of the board says what the writes up to there say
 abbrev pub WordsSay : Type 0

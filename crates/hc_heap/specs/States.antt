@@ -86,6 +86,12 @@ pub record OneStore (a b : WriterState) : Type 0 where
 abbrev pub one_load : WriterState → WriterState
 one_load d = record d { loads = d.loads + 1 }
 
+-- only loads were made, and at most so many
+pub record OnlyLoads (n : ℕ) (a b : WriterState) : Type 0 where
+  pub is : b ≡ record a { loads = b.loads }
+  pub least : a.loads ≤ b.loads
+  pub most : b.loads ≤ a.loads + n
+
 -- the view with one write more
 abbrev pub with_write : View → Write → View
 with_write v w = record v { trail = w ∷ v.trail }

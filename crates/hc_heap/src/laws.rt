@@ -1,5 +1,5 @@
 //! What a lawful trail keeps for good. The functions do nothing: each has a law as its contract, for a proof that calls it.
-ghost use Rattle.hc_heap.specs.Kept.{LawfulAtEach, PositionsGoOn, PositionsAreStores, WrittenIsKept, SetIsKept, EntriesAreKept, DetailsRise, StableIsKept, GatesAreOpen, StoresAreWrites, WordsSay, UnusedSaysNothing};
+ghost use Rattle.hc_heap.specs.Kept.{LawfulAtEach, PositionsGoOn, PositionsAreStores, WrittenIsKept, SetIsKept, EntriesAreKept, DetailsRise, StableIsKept, GatesAreOpen, FormsAreKept, StoresAreWrites, WordsSay, UnusedSaysNothing};
 
 use hc_layout::{places_are_found, places_lie};
 
@@ -37,6 +37,10 @@ pub fn stable_is_kept()
 
 pub fn gates_are_open()
     ensures law { GatesAreOpen }
+{}
+
+pub fn forms_are_kept()
+    ensures law { FormsAreKept }
 {}
 
 pub fn stores_are_writes()
