@@ -1,0 +1,4 @@
+pub mod Having
+pub mod Begun
+pub mod Filled
+pub mod Given

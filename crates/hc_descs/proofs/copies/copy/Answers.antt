@@ -1,0 +1,107 @@
+use Rattle.std.proofs.Common.{◌≡◌, ℕ, ◌+◌, ◌<◌, Some, ◌∷◌, ap, sym, ◌∙◌, subst, arith}
+use Rattle.hc_layout.specs.declared.shape.Shape.{Shape}
+use Rattle.hc_heap.specs.Writes.{Trail, EntryKey, Reference}
+use Rattle.hc_heap.specs.Readings.{gate_in}
+use Rattle.hc_heap.specs.Lawful.{Lawful}
+use Rattle.hc_heap.specs.Kept.{Adds}
+use Rattle.hc_heap.specs.States.{View, HeapState, one_load}
+use Rattle.hc_descs.specs.Entries.{AreFree, entries_in, key_at, field_at}
+use Rattle.hc_descs.specs.Copies.{own_array, FillsArray, HasEntriesOf}
+use Rattle.hc_descs.specs.Filling.{FillsEntries, IsFilled}
+use Rattle.hc_descs.proofs.Having.{field-used}
+use Rattle.hc_descs.proofs.Begun.{begun, entries-begun, free-begun}
+use Rattle.hc_descs.proofs.Filled.{adds-entry, has-filled, has-last, spare-last, gate-same}
+use Rattle.hc_descs.proofs.Given.{given, given-writes, given-entries, given-spare}
+use Rattle.hc_descs.proofs.copies.copy.Goals as goal
+
+pub copy_entries-requires-clause-entries : goal.copy_entries-requires-clause-entries
+copy_entries-requires-clause-entries g c =
+    let v = c.args.h.now.view in
+    let start = begun c.args.h.now c.gate.new.self c.fresh-first.new.self (one_load c.args.h.now.desk) c.fresh-first.result c.cap-capacity.result c.gate.ensures.new c.fresh-first.ensures.new c.fresh-first.ensures.first in
+    let is : gate_in v.trail c.args.map ≡ Some c.unwrap-n.result = sym c.gate.ensures.value ∙ c.unwrap-n.ensures in
+    entries-begun v c.fresh-first.new.self.view c.fresh-first.result c.args.map c.unwrap-n.result start c.gates_are_open.ensures.law c.stands.ensures.heap is
+
+pub copy_entries-requires-clause-free : goal.copy_entries-requires-clause-free
+copy_entries-requires-clause-free g c =
+    let start = begun c.args.h.now c.gate.new.self c.fresh-first.new.self (one_load c.args.h.now.desk) c.fresh-first.result c.cap-capacity.result c.gate.ensures.new c.fresh-first.ensures.new c.fresh-first.ensures.first in
+    free-begun c.args.h.now.view c.fresh-first.new.self.view c.fresh-first.result start c.unused_says_nothing.ensures.law c.stands.ensures.heap
+
+pub put_entry-requires-clause-field : goal.put_entry-requires-clause-field
+put_entry-requires-clause-field g c =
+    let start = begun c.args.h.now c.gate.new.self c.fresh-first.new.self (one_load c.args.h.now.desk) c.fresh-first.result c.cap-capacity.result c.gate.ensures.new c.fresh-first.ensures.new c.fresh-first.ensures.first in
+    let shape : c.copy_entries.new.h.view.shape ≡ c.args.h.now.view.shape = ap (λ (v : View). v.shape) c.copy_entries.ensures.view ∙ start.shape in
+    subst (λ (s : Shape). c.args.field < s.fields) (sym shape) (field-used c.args.h.now.view c.args.field c.unused_says_nothing.ensures.law c.stands.ensures.heap c.requires.field)
+
+pub give_array-requires-clause-closed : goal.give_array-requires-clause-closed
+give_array-requires-clause-closed g c =
+    let m = c.args.child in
+    let start = begun c.args.h.now c.gate.new.self c.fresh-first.new.self (one_load c.args.h.now.desk) c.fresh-first.result c.cap-capacity.result c.gate.ensures.new c.fresh-first.ensures.new c.fresh-first.ensures.first in
+    ap (λ (v : View). gate_in v.trail m) c.put_entry.ensures.view
+    ∙ (gate-same c.fresh-first.new.self.view.trail c.copy_entries.new.h.view.trail c.fresh-first.result m c.copy_entries.ensures.filled.writes ∙ (ap (λ (t : Trail). gate_in t m) start.trail ∙ c.requires.closed))
+
+pub returns-clause-writes : goal.returns-clause-writes
+returns-clause-writes g c =
+    let v = c.args.h.now.view in
+    let first = c.fresh-first.result in
+    let n = c.unwrap-n.result.entries in
+    let filled = c.copy_entries.new.h.view.trail in
+    let start = begun c.args.h.now c.gate.new.self c.fresh-first.new.self (one_load c.args.h.now.desk) c.fresh-first.result c.cap-capacity.result c.gate.ensures.new c.fresh-first.ensures.new c.fresh-first.ensures.first in
+    let whole : Trail = Reference (first + n) c.args.field ∷ EntryKey (first + n) c.args.key ∷ filled in
+    let array = own_array c.cap-capacity.result in
+    let end : c.give_array.new.h.view.trail ≡ given whole c.args.child first array =
+    ap (λ (x : View). x.trail) c.give_array.ensures.view ∙ ap (λ (x : View). given x.trail c.args.child first array) c.put_entry.ensures.view in
+    let writes : Adds (FillsEntries first) v.trail whole =
+    adds-entry v.trail filled first n c.args.key c.args.field (subst (λ (t : Trail). Adds (FillsEntries first) t filled) start.trail c.copy_entries.ensures.filled.writes) in
+    subst (λ (t : Trail). Adds (FillsArray c.args.child v.used.entries) v.trail t) (sym end)
+    (subst (λ (e : ℕ). Adds (FillsArray c.args.child e) v.trail (given whole c.args.child first array)) start.first (given-writes v.trail whole c.args.child first array writes))
+
+pub returns-clause-old : goal.returns-clause-old
+returns-clause-old g c =
+    let v = c.args.h.now.view in
+    let first = c.fresh-first.result in
+    let n = c.unwrap-n.result.entries in
+    let m = c.args.map in
+    let filled = c.copy_entries.new.h.view.trail in
+    let is : gate_in v.trail m ≡ Some c.unwrap-n.result = sym c.gate.ensures.value ∙ c.unwrap-n.ensures in
+    let start = begun c.args.h.now c.gate.new.self c.fresh-first.new.self (one_load c.args.h.now.desk) c.fresh-first.result c.cap-capacity.result c.gate.ensures.new c.fresh-first.ensures.new c.fresh-first.ensures.first in
+    let whole : Trail = Reference (first + n) c.args.field ∷ EntryKey (first + n) c.args.key ∷ filled in
+    let array = own_array c.cap-capacity.result in
+    let end : c.give_array.new.h.view.trail ≡ given whole c.args.child first array =
+    ap (λ (x : View). x.trail) c.give_array.ensures.view ∙ ap (λ (x : View). given x.trail c.args.child first array) c.put_entry.ensures.view in
+    let done : IsFilled v.trail filled first n (key_at v.trail m) (field_at v.trail m) =
+    subst (λ (t : Trail). IsFilled t filled first n (key_at t m) (field_at t m)) start.trail c.copy_entries.ensures.filled in
+    let writes = adds-entry v.trail filled first n c.args.key c.args.field done.writes in
+    let has = has-last filled first n (key_at v.trail m) (field_at v.trail m) c.args.key c.args.field (has-filled v.trail filled first n (key_at v.trail m) (field_at v.trail m) done) in
+    let lawful = subst (λ (t : Trail). Lawful c.give_array.new.h.view.shape t) end c.give_array.ensures.heap.lawful in
+    let count : entries_in (gate_in v.trail m) ≡ n = ap entries_in is in
+    subst (λ (t : Trail). HasEntriesOf t c.args.child m (entries_in (gate_in v.trail m))) (sym end)
+    (subst (λ (k : ℕ). HasEntriesOf (given whole c.args.child first array) c.args.child m k) (sym count)
+    (given-entries c.give_array.new.h.view.shape v.trail whole c.args.child first m c.unwrap-n.result array c.entries_are_kept.ensures.law writes lawful is has))
+
+pub returns-clause-spare : goal.returns-clause-spare
+returns-clause-spare g c =
+    let v = c.args.h.now.view in
+    let first = c.fresh-first.result in
+    let n = c.unwrap-n.result.entries in
+    let filled = c.copy_entries.new.h.view.trail in
+    let start = begun c.args.h.now c.gate.new.self c.fresh-first.new.self (one_load c.args.h.now.desk) c.fresh-first.result c.cap-capacity.result c.gate.ensures.new c.fresh-first.ensures.new c.fresh-first.ensures.first in
+    let count : entries_in (gate_in v.trail c.args.map) ≡ n = ap entries_in (sym c.gate.ensures.value ∙ c.unwrap-n.ensures) in
+    let whole : Trail = Reference (first + n) c.args.field ∷ EntryKey (first + n) c.args.key ∷ filled in
+    let array = own_array c.cap-capacity.result in
+    let end : c.give_array.new.h.view.trail ≡ given whole c.args.child first array =
+    ap (λ (x : View). x.trail) c.give_array.ensures.view ∙ ap (λ (x : View). given x.trail c.args.child first array) c.put_entry.ensures.view in
+    let is_first = start.first in
+    let from : first + (n + 1) ≡ v.used.entries + (entries_in (gate_in v.trail c.args.map) + 1) = omega arith in
+    subst (λ (t : Trail). AreFree t (v.used.entries + (entries_in (gate_in v.trail c.args.map) + 1))) (sym end)
+    (subst (λ (e : ℕ). AreFree (given whole c.args.child first array) e) from
+    (given-spare whole c.args.child first array (first + (n + 1)) (spare-last filled first n c.args.key c.args.field c.copy_entries.ensures.filled.rest)))
+
+pub returns-clause-went : goal.returns-clause-went
+returns-clause-went g c =
+    let on = g.met.P.Pace.goes_on in
+    let h = c.args.h.now in
+    let begin : g.P.Pace.went h.pace h.desk.trail c.fresh-first.new.self.desk.trail c.fresh-first.new.self.pace =
+    subst (λ (s : HeapState g.row.P.Denot). g.P.Pace.went h.pace h.desk.trail s.desk.trail s.pace) (sym c.fresh-first.ensures.new) c.gate.ensures.went in
+    on h.pace c.fresh-first.new.self.pace c.give_array.new.h.pace h.desk.trail c.fresh-first.new.self.desk.trail c.give_array.new.h.desk.trail begin
+    (on c.fresh-first.new.self.pace c.copy_entries.new.h.pace c.give_array.new.h.pace c.fresh-first.new.self.desk.trail c.copy_entries.new.h.desk.trail c.give_array.new.h.desk.trail c.copy_entries.ensures.went
+    (on c.copy_entries.new.h.pace c.put_entry.new.h.pace c.give_array.new.h.pace c.copy_entries.new.h.desk.trail c.put_entry.new.h.desk.trail c.give_array.new.h.desk.trail c.put_entry.ensures.went c.give_array.ensures.went))
