@@ -1,0 +1,10 @@
+pub mod Keeping
+pub mod Growing
+pub mod Fresh
+pub mod Begun
+pub mod Copied
+pub mod Opened
+pub mod Made
+pub mod Filled
+pub mod Whole
+pub mod Chained

@@ -1,0 +1,25 @@
+-- What a lawful trail keeps of the maps that are open, the contract of a function of `laws.rt`.
+use Rattle.std.specs.Prelude.{◌≡◌, ℕ, ◌<◌, Some}
+use Rattle.hc_layout.specs.declared.shape.Shape.{Shape}
+use Rattle.hc_layout.specs.declared.words.GateWord.{GateWord}
+use Rattle.hc_heap.specs.Writes.{Trail}
+use Rattle.hc_heap.specs.Readings.{gate_in, detail_in}
+use Rattle.hc_heap.specs.Lawful.{Lawful}
+use Rattle.hc_heap.specs.Kept.{GoesOn, WrittenStays, IsOpen}
+use Rattle.hc_descs.specs.Entries.{key_at, field_at}
+use Rattle.hc_tree.specs.Tree.{tagged_field}
+
+-- an entry of a map is what it was
+pub record EntryStays (old new : Trail) (m k : ℕ) : Type 0 where
+  pub key : key_at new m k ≡ key_at old m k
+  pub field : field_at new m k ≡ field_at old m k
+
+-- open maps are as they were: their gates, parents, prototypes and entries; and a field that admits everything stays so
+pub record MapsStay (old new : Trail) : Type 0 where
+  pub written : WrittenStays old new
+  pub entry : (m k : ℕ) (g : GateWord) → gate_in old m ≡ Some g → k < g.entries → EntryStays old new m k
+  pub tagged : (f : ℕ) → detail_in old f ≡ Some tagged_field → detail_in new f ≡ Some tagged_field
+  pub opened : (m : ℕ) (g : GateWord) → gate_in old m ≡ Some g → IsOpen old m g
+
+abbrev pub MapsAreKept : Type 0
+MapsAreKept = (s : Shape) (old new : Trail) → Lawful s old → GoesOn s old new → MapsStay old new

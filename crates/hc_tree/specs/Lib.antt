@@ -1,0 +1,5 @@
+pub mod Tree
+pub mod Needs
+pub mod Growth
+pub mod Kept
+pub mod Copying

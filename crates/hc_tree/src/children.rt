@@ -1,0 +1,174 @@
+//! The children of maps.
+ghost use Rattle.std.specs.Prelude.{◌≡◌, ◌+◌, ◌<◌, ℕ, false, None, Some, Ok, IfOk, IfSome, IsSomeAnd, All};
+ghost use Rattle.hc_layout.specs.declared.shape.Region.TheVariants.{Maps, Entries, Fields};
+ghost use Rattle.hc_layout.specs.declared.capacity.TheConstants.{MAX_FAST};
+ghost use Rattle.hc_heap.specs.Readings.{bits_in, gate_in, prototype_in};
+ghost use Rattle.hc_heap.specs.Lawful.{IsKey};
+ghost use Rattle.hc_heap.specs.Kept.{Adds};
+ghost use Rattle.hc_heap.specs.States.{IsHeap, Goes, HasRoom};
+ghost use Rattle.hc_descs.specs.Entries.{LacksName, count_of};
+ghost use Rattle.hc_links.specs.Chains.{links_in};
+ghost use Rattle.hc_tree.specs.Tree.{IsTree, IsChildFor, IsDeadFor, IsProperKey, tagged_field};
+ghost use Rattle.hc_tree.specs.Needs.{HasSpace, IsSpaceExact, used_after, with_need};
+ghost use Rattle.hc_tree.specs.Growth.{MayGrow, EndsWith, MakesMap, IsStill, IsUnmoved, IsReadyChild, live_child, child_need};
+
+use crate::fields::new_field;
+use crate::laws::maps_are_kept;
+use crate::mark::mark_unstable;
+use crate::need::{Need, has_space};
+use hc_descs::copy;
+use hc_heap::{Heap, Pace, Space, forms_are_kept, gates_are_open, unused_says_nothing};
+use hc_layout::{GateWord, Region, cap};
+use hc_links::{child, link, links_are_chained, same_keys_are_equal};
+use hc_value::{Detail, Key};
+
+/// The live child of a map for a key. It is made where there is none, with a new field of this detail.
+pub fn child_or_make<P: Pace>(
+    h: &mut Heap<P>,
+    map: u32,
+    key: Key,
+    detail: Detail,
+) -> Result<u32, Space>
+    requires tree { IsTree h.old.view.trail }
+    requires open { IsSomeAnd (gate_in h.old.view.trail map) MayGrow }
+    requires live { (bits_in h.old.view.trail map).deprecated ≡ false }
+    requires key { IsKey key }
+    requires proper { IsProperKey key }
+    requires lacks { LacksName h.old.view.trail map (count_of h.old.view.trail map) key.name }
+    requires tagged { detail ≡ tagged_field }
+    ensures live { IfOk result (λ c. live_child h.new.view.trail map key ≡ Some c) }
+    ensures child { IfOk result (λ c. IsSomeAnd (gate_in h.new.view.trail map) (λ g. IsChildFor h.new.view.trail map g c key)) }
+    ensures ends { IfOk result (λ c. EndsWith h.new.view.trail c (count_of h.old.view.trail map) key detail) }
+    ensures found { (c : ℕ) → live_child h.old.view.trail map key ≡ Some c → result ≡ Ok c }
+    ensures space { IsSpaceExact h.old.view (child_need (live_child h.old.view.trail map key) (count_of h.old.view.trail map)) result }
+    ensures used { h.new.view.used ≡ used_after result (child_need (live_child h.old.view.trail map key) (count_of h.old.view.trail map)) h.old.view.used }
+    ensures still { IsStill (live_child h.old.view.trail map key) result → IsUnmoved h.old h.new }
+    ensures writes { Adds (MakesMap h.old.view.used (Some map)) h.old.view.trail h.new.view.trail }
+    ensures shape { h.new.view.shape ≡ h.old.view.shape }
+    ensures tree { IsTree h.new.view.trail }
+    ensures heap { IsHeap h.new.view }
+    ensures goes { Goes h.old.desk h.new.desk }
+    ensures went { P.went h.old.pace h.old.desk.trail h.new.desk.trail h.new.pace }
+{
+    h.stands();
+    same_keys_are_equal();
+    gates_are_open();
+    if let Some(child) = live(h, map, key) {
+        return Ok(child);
+    }
+    let n = h.gate(map).unwrap().entries;
+    if !has_space(h, needed(n)) {
+        return Err(Space);
+    }
+    Ok(make_child(h, map, key, detail, n))
+}
+
+// What a new child of a map with n entries needs.
+fn needed(n: u32) -> Need
+    requires few { n < MAX_FAST }
+    ensures { result ≡ child_need None n }
+{
+    Need {
+        maps: 1,
+        entries: cap(n + 1),
+        fields: 1,
+        links: 1,
+        slots: 0,
+    }
+}
+
+// The newest child of a map for a key, unless it is deprecated.
+fn live<P: Pace>(h: &mut Heap<P>, map: u32, key: Key) -> Option<u32>
+    ensures live { result ≡ live_child h.old.view.trail map key }
+    ensures same { IsUnmoved h.old h.new }
+    ensures goes { Goes h.old.desk h.new.desk }
+    ensures went { P.went h.old.pace h.old.desk.trail h.new.desk.trail h.new.pace }
+{
+    let found = child(h, map, key)?;
+    let bits = h.bits(found);
+    if bits.deprecated {
+        return None;
+    }
+    Some(found)
+}
+
+// Makes a child of a map with n entries, which has no live one for the key.
+fn make_child<P: Pace>(h: &mut Heap<P>, map: u32, key: Key, detail: Detail, n: u32) -> u32
+    requires tree { IsTree h.old.view.trail }
+    requires open { IsSomeAnd (gate_in h.old.view.trail map) MayGrow }
+    requires count { n ≡ count_of h.old.view.trail map }
+    requires live { (bits_in h.old.view.trail map).deprecated ≡ false }
+    requires key { IsKey key }
+    requires proper { IsProperKey key }
+    requires lacks { LacksName h.old.view.trail map n key.name }
+    requires tagged { detail ≡ tagged_field }
+    requires dead { All (IsDeadFor h.old.view.trail (Some key)) (links_in h.old.view.trail map) }
+    requires space { HasSpace h.old.view (child_need None n) }
+    ensures number { result ≡ h.old.view.used.maps }
+    ensures live { live_child h.new.view.trail map key ≡ Some result }
+    ensures child { IsSomeAnd (gate_in h.new.view.trail map) (λ g. IsChildFor h.new.view.trail map g result key) }
+    ensures ends { EndsWith h.new.view.trail result n key detail }
+    ensures used { h.new.view.used ≡ with_need (child_need None n) h.old.view.used }
+    ensures writes { Adds (MakesMap h.old.view.used (Some map)) h.old.view.trail h.new.view.trail }
+    ensures shape { h.new.view.shape ≡ h.old.view.shape }
+    ensures tree { IsTree h.new.view.trail }
+    ensures heap { IsHeap h.new.view }
+    ensures goes { Goes h.old.desk h.new.desk }
+    ensures went { P.went h.old.pace h.old.desk.trail h.new.desk.trail h.new.pace }
+{
+    maps_are_kept();
+    gates_are_open();
+    same_keys_are_equal();
+    unused_says_nothing();
+    h.stands();
+    mark_unstable(h, map);
+    let child = begin_child(h, map, key, detail, n);
+    h.set_gate(
+        child,
+        GateWord {
+            entries: n + 1,
+            is_private: false,
+            is_locked: false,
+        },
+    );
+    link(h, map, key, child);
+    child
+}
+
+// Hands out a map, and gives it a field, a parent, a prototype and its entries.
+fn begin_child<P: Pace>(h: &mut Heap<P>, map: u32, key: Key, detail: Detail, n: u32) -> u32
+    requires tree { IsTree h.old.view.trail }
+    requires open { IsSomeAnd (gate_in h.old.view.trail map) MayGrow }
+    requires count { n ≡ count_of h.old.view.trail map }
+    requires live { (bits_in h.old.view.trail map).deprecated ≡ false }
+    requires key { IsKey key }
+    requires proper { IsProperKey key }
+    requires lacks { LacksName h.old.view.trail map n key.name }
+    requires tagged { detail ≡ tagged_field }
+    requires dead { All (IsDeadFor h.old.view.trail (Some key)) (links_in h.old.view.trail map) }
+    requires space { HasSpace h.old.view (child_need None n) }
+    ensures number { result ≡ h.old.view.used.maps }
+    ensures ready { IsReadyChild h.new.view.trail map result n h.old.view.used.fields key }
+    ensures used { h.new.view.used ≡ record (with_need (child_need None n) h.old.view.used) { links = h.old.view.used.links } }
+    ensures writes { Adds (MakesMap h.old.view.used (Some map)) h.old.view.trail h.new.view.trail }
+    ensures bits { bits_in h.new.view.trail map ≡ bits_in h.old.view.trail map }
+    ensures shape { h.new.view.shape ≡ h.old.view.shape }
+    ensures tree { IsTree h.new.view.trail }
+    ensures heap { IsHeap h.new.view }
+    ensures goes { Goes h.old.desk h.new.desk }
+    ensures went { P.went h.old.pace h.old.desk.trail h.new.desk.trail h.new.pace }
+{
+    maps_are_kept();
+    links_are_chained();
+    gates_are_open();
+    forms_are_kept();
+    unused_says_nothing();
+    h.stands();
+    let proto = h.proto(map).unwrap();
+    let child = h.fresh(Region::Maps, 1);
+    let field = new_field(h, child, detail);
+    h.set_parent(child, Some(map));
+    h.set_proto(child, proto);
+    copy(h, map, child, key, field);
+    child
+}

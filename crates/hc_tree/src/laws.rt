@@ -1,0 +1,13 @@
+//! What a lawful trail keeps of maps. The function does nothing: it has a law as its contract, for a proof that calls it.
+ghost use Rattle.hc_tree.specs.Kept.{MapsAreKept};
+
+use hc_heap::{details_rise, entries_are_kept, gates_are_open, written_is_kept};
+
+pub fn maps_are_kept()
+    ensures law { MapsAreKept }
+{
+    written_is_kept();
+    entries_are_kept();
+    details_rise();
+    gates_are_open();
+}
