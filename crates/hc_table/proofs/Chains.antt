@@ -1,11 +1,11 @@
 -- Lemmas on chains of prototypes: a chain that leads to null has no object twice, so it leads there past at most as
 -- many objects as there are.
 use Rattle.std.proofs.Common.{◌≡◌, ℕ, zero, suc, ◌+◌, ◌<◌, ◌≤◌, Bool, true, false, ◌||◌, eqb, List, [], ◌∷◌, Option, Some, None, length, refl, sym, ap, subst, ◌∙◌, true≢false, arith}
-use Rattle.std.specs.Prelude.{if◌then◌else◌, IfSome}
+use Rattle.std.specs.Prelude.{if◌then◌else◌}
 use Rattle.std.specs.List.{AllByRecursion, IsDistinct, list_any}
 use Rattle.std.proofs.lemmas.Bool.Decides.{Decides-eqb}
 use Rattle.std.proofs.lemmas.Map.Steps.{length-le_from_distinct_below}
-use Rattle.hc_table.specs.Changes.{IsThere, reaches_among}
+use Rattle.hc_table.specs.Changes.{reaches_among}
 use Rattle.hc_table.specs.World.{World, object, LeadsToNull}
 
 pub none : (n : ℕ) (w : World) → LeadsToNull n w None

@@ -1,7 +1,6 @@
 -- Lemmas on what changes of a list of properties leave: names that differ, and properties that may be kept.
-use Rattle.std.proofs.Common.{◌≡◌, ℕ, zero, suc, ◌<◌, Bool, true, false, ◌&&◌, ◌||◌, eqb, if◌then◌else◌, List, [], ◌∷◌, ◌++◌, Option, Some, None, option_map, length, map, get_or, set, refl, sym, ap, subst, ◌∙◌, arith}
+use Rattle.std.proofs.Common.{◌≡◌, ℕ, zero, suc, ◌<◌, Bool, true, false, ◌&&◌, ◌||◌, eqb, if◌then◌else◌, List, [], ◌∷◌, Option, Some, None, option_map, length, map, get_or, set, refl, sym, ap, subst, ◌∙◌, arith}
 use Rattle.std.specs.List.{AllByRecursion, remove}
-use Rattle.std.specs.Prelude.{slice_get}
 use Rattle.hc_value.specs.Attrs.{is_read_only, bits_of}
 use Rattle.hc_value.specs.Prop.{kind_of}
 use Rattle.hc_value.specs.declared.attrs.Attrs.{Attrs}
@@ -10,7 +9,7 @@ use Rattle.hc_value.specs.declared.prop.Held.TheVariants.{Datum, Pair}
 use Rattle.hc_value.specs.declared.prop.Prop.{Prop}
 use Rattle.hc_table.specs.Attributes.{attributes_of, is_datum, is_dont_enum, IsClear, IsProper, restricted}
 use Rattle.hc_table.specs.Changes.{name_at, kind_at, removed_at}
-use Rattle.hc_table.specs.World.{place_of, holding, held_at, HaveDistinctNames}
+use Rattle.hc_table.specs.World.{place_of, held_at, HaveDistinctNames}
 use Rattle.hc_table.proofs.Properties.{absent_first, absent_more, names}
 
 -- places and distinct names hang on the names alone

@@ -1,5 +1,5 @@
 -- Lemmas on a list whose first items are mapped.
-use Rattle.std.proofs.Common.{◌≡◌, ℕ, zero, suc, ◌+◌, ◌<◌, List, [], ◌∷◌, length, map, get_or, set, refl, ap, add-one, ◌∙◌, arith}
+use Rattle.std.proofs.Common.{◌≡◌, ℕ, zero, suc, ◌+◌, ◌<◌, List, [], ◌∷◌, length, map, get_or, set, refl, ap, ◌∙◌, arith}
 
 -- the first so many items mapped, and the others as they are
 abbrev pub mapped_to : {X : Type 0} → (X → X) → ℕ → List X → List X

@@ -1,6 +1,5 @@
 -- Lemmas on worlds: what each changing call leaves of what holds of the objects.
-use Rattle.std.proofs.Common.{◌≡◌, ℕ, zero, suc, ◌+◌, ◌<◌, ◌≤◌, Bool, true, false, eqb, List, [], ◌∷◌, ◌++◌, Option, Some, None, length, map, set, refl, sym, ap, subst, ◌∙◌, arith, length-append}
-use Rattle.std.specs.Prelude.{IfSome}
+use Rattle.std.proofs.Common.{◌≡◌, ℕ, zero, suc, ◌+◌, ◌<◌, ◌≤◌, Bool, true, false, eqb, [], ◌∷◌, ◌++◌, Option, Some, None, length, map, set, refl, sym, ap, subst, ◌∙◌, arith, length-append}
 use Rattle.std.specs.List.{AllByRecursion}
 use Rattle.std.proofs.lemmas.List.{length-set}
 use Rattle.std.proofs.lemmas.Bool.Decides.{nat_tests, Decides-eqb}
@@ -9,9 +8,9 @@ use Rattle.hc_value.specs.declared.prop.Held.{Held}
 use Rattle.hc_value.specs.declared.prop.Prop.{Prop}
 use Rattle.hc_table.specs.Attributes.{IsProper, restricted}
 use Rattle.hc_table.specs.Changes.{IsThere, name_at, kind_at, removed_at, reaches, with_link, locked, restricted_object, with_property, with_removed, with_proto, with_lock, with_integrity}
-use Rattle.hc_table.specs.Changes.{Did, after}
-use Rattle.hc_table.specs.Kept.{Kept, IsKept, Came, with_world}
-use Rattle.hc_table.specs.World.{Object, World, object, new_object, props_at, place_of, with_list, with_props, with_object, with_added, with_written, held_at, IsWorld, HaveDistinctNames, LeadsToNull}
+use Rattle.hc_table.specs.Changes.{Did, Nothing, Moved, Created, Added, Wrote, Reconfigured, Removed, Linked, Locked, Restricted, after}
+use Rattle.hc_table.specs.Kept.{Kept, IsKept, Came, MayDo, with_world}
+use Rattle.hc_table.specs.World.{Object, World, object, new_object, props_at, place_of, with_list, with_object, with_added, with_written, held_at, IsWorld, HaveDistinctNames, LeadsToNull}
 use Rattle.hc_table.proofs.Chains.{none, more, along, avoids, linked}
 use Rattle.hc_table.proofs.Edits.{distinct-same_names, names-set, All-set, proper-held_at, distinct-removed, proper-removed, All-restricted, names-restricted}
 use Rattle.hc_table.proofs.Properties.{HaveDistinctNames-push, AllByRecursion-push, HaveDistinctNames-held_at, length-names}
@@ -220,3 +219,16 @@ came-made kept now is did w e = record {
   world = e ∙ ap (λ (k : Kept). after did k.world) is;
   limit = ap (λ (k : Kept). k.limit) is;
 }
+
+-- the objects stay sound after a call that may be made
+pub changes-keep : (kept : Kept) (did : Did) → IsKept kept → MayDo kept did → IsKept (with_world kept (after did kept.world))
+changes-keep kept Nothing h may = h
+changes-keep kept Moved h may = h
+changes-keep kept (Created proto) h may = IsKept-with_object kept h proto may.0 may.1
+changes-keep kept (Added o p) h may = IsKept-with_added kept h o p may.0 may.1
+changes-keep kept (Wrote o i held) h may = IsKept-with_written kept h o i held may
+changes-keep kept (Reconfigured o i p) h may = IsKept-with_property kept h o i p may.0 may.1
+changes-keep kept (Removed o i) h may = IsKept-with_removed kept h o i
+changes-keep kept (Linked o proto) h may = IsKept-with_proto kept h o proto may.0 may.1 may.2
+changes-keep kept (Locked o) h may = IsKept-with_lock kept h o
+changes-keep kept (Restricted o frozen) h may = IsKept-with_integrity kept h o frozen

@@ -5,7 +5,7 @@ use Rattle.hc_value.specs.declared.prop.Held.{Held}
 use Rattle.hc_value.specs.declared.prop.Kind.{Kind}
 use Rattle.hc_value.specs.declared.prop.Prop.{Prop}
 use Rattle.hc_table.specs.Attributes.{restricted}
-use Rattle.hc_table.specs.World.{Object, World, object, props_at, with_list, with_props, with_object, with_added, with_written}
+use Rattle.hc_table.specs.World.{Object, World, object, props_at, with_props, with_object, with_added, with_written}
 
 -- the name, and the kind, of the property at a place
 abbrev pub name_at : List Prop → ℕ → Option ℕ

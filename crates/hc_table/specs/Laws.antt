@@ -1,6 +1,6 @@
 -- The laws of what `Plain` says was done.
-use Rattle.std.specs.Prelude.{◌≡◌, refl}
-use Rattle.std.proofs.Common.{sym, ap, ◌∙◌}
+use Rattle.std.specs.Prelude.{refl}
+use Rattle.std.proofs.Common.{ap, ◌∙◌}
 use Rattle.hc_table.specs.Changes.{Did, Nothing, after}
 use Rattle.hc_table.specs.Kept.{Kept, Came}
 

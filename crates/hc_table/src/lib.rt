@@ -4,11 +4,13 @@
 
 mod attribute;
 mod fault;
+mod laws;
 mod plain;
 mod tables;
 
 pub use attribute::{attributes, dont_delete, dont_enum, read_only};
 pub use fault::TableFault;
+pub use laws::changes_keep;
 pub use plain::Plain;
 pub use tables::Tables;
 

@@ -65,3 +65,45 @@ fn properties_stand_in_order_and_are_written_in_place(rt: HostRuntime) -> Result
     assert_eq!(rt; held(&rt, &mut plain, 1, 7), None);
     Ok(())
 }
+
+#[test]
+fn an_object_is_changed_as_each_call_says(rt: HostRuntime) -> Result<(), Fail> {
+    let mut plain = Plain::new(rt.alloc(), 2);
+    assert_eq!(rt; plain.create(None)?, 0);
+    for name in [7, 3, 5] {
+        add(&rt, &mut plain, 0, name, 1)?;
+    }
+    let count = plain.count();
+    assert!(rt; 0 < count);
+    let len = plain.len(0);
+    assert!(rt; 1 < len);
+    plain.remove(0, 1)?;
+    let count = plain.count();
+    assert!(rt; 0 < count);
+    assert_eq!(rt; plain.find_own(0, 3), None);
+    assert_eq!(rt; plain.find_own(0, 5), Some(1));
+    plain.restrict(0, true)?;
+    let count = plain.count();
+    assert!(rt; 0 < count);
+    assert!(rt; !plain.extensible(0));
+    let len = plain.len(0);
+    assert!(rt; len == 2);
+    assert_eq!(rt; plain.prop_at(0, 1).attrs, attributes(true, false, true));
+    assert_eq!(rt; plain.create(Some(0))?, 1);
+    let count = plain.count();
+    assert!(rt; 1 < count);
+    assert_eq!(rt; plain.proto(1), Some(0));
+    let extensible = plain.extensible(1);
+    assert!(rt; extensible);
+    plain.set_proto(1, None)?;
+    let count = plain.count();
+    assert!(rt; 1 < count);
+    assert_eq!(rt; plain.proto(1), None);
+    let extensible = plain.extensible(1);
+    assert!(rt; extensible);
+    plain.lock(1)?;
+    let count = plain.count();
+    assert!(rt; 1 < count);
+    assert!(rt; !plain.extensible(1));
+    Ok(())
+}

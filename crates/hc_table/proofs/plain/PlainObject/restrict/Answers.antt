@@ -2,7 +2,6 @@ use Rattle.std.proofs.Common.{◌≡◌, ◌<◌, List, false, length, map, get_
 use Rattle.std.proofs.lemmas.List.{length-map, with_items_is}
 use Rattle.hc_value.specs.declared.prop.Prop.{Prop}
 use Rattle.hc_table.specs.Attributes.{restricted}
-use Rattle.hc_table.specs.Plain.{object_of}
 use Rattle.hc_table.specs.World.{Object}
 use Rattle.hc_table.proofs.Mapping.{mapped_to, mapped_to-all, mapped_to-next}
 use Rattle.hc_table.proofs.plain.PlainObject.restrict.Goals as goal

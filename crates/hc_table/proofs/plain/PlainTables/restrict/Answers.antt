@@ -1,12 +1,9 @@
-use Rattle.std.proofs.Common.{◌≡◌, ◌<◌, ◌∙◌, Some, false, ap, length, map, set, subst, sym}
-use Rattle.std.specs.Prelude.{slice_set}
-use Rattle.hc_value.specs.Prop.{kind_of}
-use Rattle.hc_table.specs.Changes.{Restricted, IsThere, kind_at, name_at, reaches, removed_at, with_link, locked, restricted_object, with_property, with_removed, with_proto, with_lock, with_integrity}
+use Rattle.std.proofs.Common.{◌≡◌, ◌<◌, length, map, set, subst, sym}
+use Rattle.hc_table.specs.Changes.{Restricted, restricted_object, with_integrity}
 use Rattle.hc_table.specs.Kept.{Kept, IsKept, with_world}
 use Rattle.hc_table.specs.Plain.{object_of, kept_by}
-use Rattle.hc_table.specs.World.{Object, World, props_at, with_list, with_written, held_at}
-use Rattle.hc_table.proofs.Edits.{within-kind, within-name}
-use Rattle.hc_table.proofs.Objects.{props_at-kept, world-changed}
+use Rattle.hc_table.specs.World.{Object, World}
+use Rattle.hc_table.proofs.Objects.{world-changed}
 use Rattle.hc_table.proofs.Worlds.{IsKept-with_integrity, came-made}
 use Rattle.hc_table.proofs.plain.PlainTables.restrict.Goals as goal
 
