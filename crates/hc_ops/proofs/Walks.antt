@@ -3,7 +3,7 @@ use Rattle.std.proofs.Common.{◌≡◌, ℕ, zero, suc, ◌<◌, ◌≤◌, Boo
 use Rattle.std.specs.Prelude.{if◌then◌else◌}
 use Rattle.std.proofs.lemmas.Bool.Decides.{Decides-eqb}
 use Rattle.hc_value.specs.declared.prop.Prop.{Prop}
-use Rattle.hc_table.specs.Changes.{IsThere, reaches, reaches_among}
+use Rattle.hc_table.specs.Changes.{IsThere, reaches_among}
 use Rattle.hc_table.specs.World.{World, IsWorld, LeadsToNull, object, props_at, property_of}
 use Rattle.hc_ops.specs.declared.walk.Found.{Found}
 use Rattle.hc_ops.specs.Found.{found_in}

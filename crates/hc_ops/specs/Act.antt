@@ -1,5 +1,5 @@
 -- What an operation comes to: its reply, and the one changing call that it makes, if any.
-use Rattle.std.specs.Prelude.{Bool, true, false}
+use Rattle.std.specs.Prelude.{Bool, true}
 use Rattle.hc_value.specs.declared.reply.Reply.{Reply}
 use Rattle.hc_value.specs.declared.reply.Reply.TheVariants.{Flag}
 use Rattle.hc_table.specs.Changes.{Did, Nothing}

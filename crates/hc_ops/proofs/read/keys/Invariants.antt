@@ -1,4 +1,4 @@
-use Rattle.std.proofs.Common.{◌≡◌, ℕ, length, map, take}
+use Rattle.std.proofs.Common.{◌≡◌, map, take}
 use Rattle.hc_table.specs.Changes.{Nothing}
 use Rattle.hc_table.specs.World.{props_at}
 use Rattle.hc_value.specs.declared.prop.Prop.{Prop}

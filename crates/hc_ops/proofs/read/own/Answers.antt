@@ -1,4 +1,4 @@
-use Rattle.std.proofs.Common.{◌≡◌, option_map, sym, ap, ◌∙◌}
+use Rattle.std.proofs.Common.{option_map, ap, ◌∙◌}
 use Rattle.hc_value.specs.declared.reply.Reply.TheVariants.{Property}
 use Rattle.hc_table.specs.World.{props_at}
 use Rattle.hc_ops.specs.declared.walk.Found.{Found}

@@ -1,4 +1,4 @@
-use Rattle.std.proofs.Common.{◌≡◌, ℕ, length}
+use Rattle.std.proofs.Common.{◌≡◌, length}
 use Rattle.hc_table.specs.Changes.{Nothing, IsThere, reaches, reaches_among}
 use Rattle.hc_ops.proofs.Walks.{passed}
 use Rattle.hc_ops.proofs.walk.comes_to.Given as goal

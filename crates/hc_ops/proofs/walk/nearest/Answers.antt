@@ -1,4 +1,4 @@
-use Rattle.std.proofs.Common.{◌≡◌, ℕ, Option, None, length, sym, ap, subst, ◌∙◌}
+use Rattle.std.proofs.Common.{◌≡◌, ℕ, Option, length, sym, ap, subst, ◌∙◌}
 use Rattle.hc_table.specs.Changes.{Nothing, IsThere}
 use Rattle.hc_table.specs.World.{World, IsWorld, object}
 use Rattle.hc_ops.specs.Nearest.{nearest, nearest_among}

@@ -1,4 +1,4 @@
-use Rattle.std.proofs.Common.{◌≡◌, ℕ, length}
+use Rattle.std.proofs.Common.{◌≡◌, length}
 use Rattle.hc_table.specs.Changes.{Nothing, IsThere}
 use Rattle.hc_ops.specs.Nearest.{nearest, nearest_among}
 use Rattle.hc_ops.proofs.Walks.{passed}

@@ -1,4 +1,4 @@
-use Rattle.std.proofs.Common.{◌≡◌, None, sym, subst, ◌∙◌}
+use Rattle.std.proofs.Common.{◌≡◌, None, sym, subst}
 use Rattle.hc_table.specs.World.{World, props_at, place_of}
 use Rattle.hc_ops.specs.Spots.{nearest_of}
 use Rattle.hc_ops.proofs.Writes.{lacks-none, lacks-other}
