@@ -3,8 +3,9 @@ use Rattle.std.proofs.Common.{◌≡◌, ℕ, ◌<◌, ◌≤◌, Bool, false, c
 use Rattle.std.specs.Prelude.{IsTrue}
 use Rattle.hc_layout.specs.declared.shape.Region.TheVariants.{Maps, Entries, Fields, Links, Objects, Slots}
 use Rattle.hc_layout.specs.declared.shape.Shape.{Shape}
+use Rattle.hc_layout.specs.declared.words.RootWord.{RootWord}
 use Rattle.hc_heap.specs.declared.kind.Kind.TheVariants.{GateOfMap, ParentOfMap, PrototypeOfMap, BitsOfMap, HeadOfMap, OwnerOfField, DetailOfField}
-use Rattle.hc_heap.specs.Writes.{Trail, Write, Gate, Parent, Prototype}
+use Rattle.hc_heap.specs.Writes.{Trail, Write, Gate, Parent, Prototype, Root}
 use Rattle.hc_heap.specs.Readings.{no_bits, gate_in, parent_in, prototype_in, bits_in, root_in, head_in, owner_in, detail_in}
 use Rattle.hc_heap.specs.Lawful.{Lawful, AllWithin, LawfulGate}
 use Rattle.hc_heap.specs.States.{View, IsHeap}
@@ -12,10 +13,10 @@ use Rattle.hc_heap.specs.Kept.{GoesOn, UnusedSaysNothing}
 use Rattle.hc_links.specs.Chains.{links_in}
 use Rattle.hc_links.specs.Laws.{AreChained, LinksAreChained}
 use Rattle.hc_tree.specs.Kept.{MapsAreKept}
-use Rattle.hc_tree.specs.Tree.{gate_with, IsBare, IsTree}
+use Rattle.hc_tree.specs.Tree.{gate_with, IsBare, IsTree, IsRoot}
 use Rattle.hc_tree.specs.Growth.{IsReady, MayBePrototype, root_need, with_root}
 use Rattle.hc_tree.specs.Needs.{HasSpace}
-use Rattle.hc_tree.proofs.Keeping.{tree-kept, goes-by}
+use Rattle.hc_tree.proofs.Keeping.{tree-kept, goes-by, root-kept}
 use Rattle.hc_tree.proofs.Growing.{alone-sound, open-tree}
 
 -- nothing was said of a map
@@ -105,3 +106,9 @@ pub known-space : (v : View) → IsHeap v → (known : Option ℕ) (r : ℕ) →
 known-space v h (Some q) r e = let a = h.most Maps in let b = h.most Entries in let c = h.most Fields in let d = h.most Links in let f = h.most Slots in
     record { maps = omega arith; entries = omega arith; fields = omega arith; links = omega arith; slots = omega arith }
 known-space v h None r e = let n : ⊥ = cc in absurd n
+
+-- what was a root is one after a root was made and named
+pub roots-kept : MapsAreKept → (s : Shape) (t : Trail) (p : Option ℕ) (o r : ℕ) (w : RootWord) → Lawful s t → Lawful s (Root o w ∷ with_root t p r) → (q : Option ℕ) (x : ℕ) → IsRoot t q x → IsRoot (Root o w ∷ with_root t p r) q x
+roots-kept law s t p o r w lawful after q x h =
+    let goes : GoesOn s t (Root o w ∷ with_root t p r) = record { more = Root o w ∷ Gate r (gate_with 0 false) ∷ Prototype r p ∷ Parent r None ∷ []; is = refl; lawful = after } in
+    root-kept t (Root o w ∷ with_root t p r) (law s t (Root o w ∷ with_root t p r) lawful goes) (λ y. refl) q x h

@@ -1,13 +1,14 @@
--- What a lawful trail keeps of the maps that are open, the contract of a function of `laws.rt`.
+-- What a lawful trail keeps of maps and of the tree, each law the contract of a function of `laws.rt`.
 use Rattle.std.specs.Prelude.{◌≡◌, ℕ, ◌<◌, Some}
 use Rattle.hc_layout.specs.declared.shape.Shape.{Shape}
 use Rattle.hc_layout.specs.declared.words.GateWord.{GateWord}
 use Rattle.hc_heap.specs.Writes.{Trail}
-use Rattle.hc_heap.specs.Readings.{gate_in, detail_in}
+use Rattle.hc_heap.specs.Readings.{gate_in, bits_in, detail_in, root_in}
 use Rattle.hc_heap.specs.Lawful.{Lawful}
 use Rattle.hc_heap.specs.Kept.{GoesOn, WrittenStays, IsOpen}
 use Rattle.hc_descs.specs.Entries.{key_at, field_at}
-use Rattle.hc_tree.specs.Tree.{tagged_field}
+use Rattle.hc_links.specs.Chains.{links_in}
+use Rattle.hc_tree.specs.Tree.{IsTree, tagged_field}
 
 -- an entry of a map is what it was
 pub record EntryStays (old new : Trail) (m k : ℕ) : Type 0 where
@@ -23,3 +24,13 @@ pub record MapsStay (old new : Trail) : Type 0 where
 
 abbrev pub MapsAreKept : Type 0
 MapsAreKept = (s : Shape) (old new : Trail) → Lawful s old → GoesOn s old new → MapsStay old new
+
+-- the tree is as it was: no link was put in, no map was opened or deprecated, and no root was named
+pub record TreeIsSame (old new : Trail) : Type 0 where
+  pub links : (m : ℕ) → links_in new m ≡ links_in old m
+  pub gates : (m : ℕ) → gate_in new m ≡ gate_in old m
+  pub lives : (m : ℕ) → (bits_in new m).deprecated ≡ (bits_in old m).deprecated
+  pub roots : (o : ℕ) → (root_in new o).map ≡ (root_in old o).map
+
+abbrev pub TreesStay : Type 0
+TreesStay = (s : Shape) (old new : Trail) → Lawful s old → GoesOn s old new → TreeIsSame old new → IsTree old → IsTree new

@@ -37,6 +37,7 @@ pub fn child_or_make<P: Pace>(
     requires lacks { LacksName h.old.view.trail map (count_of h.old.view.trail map) key.name }
     requires tagged { detail ≡ tagged_field }
     ensures live { IfOk result (λ c. live_child h.new.view.trail map key ≡ Some c) }
+    ensures number { IfOk result (λ c. live_child h.old.view.trail map key ≡ None → c ≡ h.old.view.used.maps) }
     ensures child { IfOk result (λ c. IsSomeAnd (gate_in h.new.view.trail map) (λ g. IsChildFor h.new.view.trail map g c key)) }
     ensures ends { IfOk result (λ c. EndsWith h.new.view.trail c (count_of h.old.view.trail map) key detail) }
     ensures found { (c : ℕ) → live_child h.old.view.trail map key ≡ Some c → result ≡ Ok c }

@@ -1,5 +1,5 @@
-//! What a lawful trail keeps of maps. The function does nothing: it has a law as its contract, for a proof that calls it.
-ghost use Rattle.hc_tree.specs.Kept.{MapsAreKept};
+//! What a lawful trail keeps of maps. The functions do nothing: each has a law as its contract, for a proof that calls it.
+ghost use Rattle.hc_tree.specs.Kept.{MapsAreKept, TreesStay};
 
 use hc_heap::{details_rise, entries_are_kept, gates_are_open, written_is_kept};
 
@@ -10,4 +10,10 @@ pub fn maps_are_kept()
     entries_are_kept();
     details_rise();
     gates_are_open();
+}
+
+pub fn trees_stay()
+    ensures law { TreesStay }
+{
+    maps_are_kept();
 }

@@ -11,7 +11,7 @@ mod roots;
 
 pub use children::child_or_make;
 pub use copies::private_copy;
-pub use laws::maps_are_kept;
+pub use laws::{maps_are_kept, trees_stay};
 pub use mark::mark_unstable;
 pub use need::{Need, array_size, has_space};
 pub use roots::root;

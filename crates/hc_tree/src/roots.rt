@@ -1,4 +1,4 @@
-ghost use Rattle.std.specs.Prelude.{◌≡◌, ◌+◌, ◌<◌, ℕ, IsTrue, None, Some, Ok, IfOk, IfSome};
+ghost use Rattle.std.specs.Prelude.{◌≡◌, ◌+◌, ◌<◌, ℕ, Option, IsTrue, None, Some, Ok, IfOk, IfSome};
 ghost use Rattle.hc_layout.specs.declared.shape.Region.TheVariants.{Maps};
 ghost use Rattle.hc_heap.specs.Readings.{root_in};
 ghost use Rattle.hc_heap.specs.States.{IsHeap, Goes, HasRoom};
@@ -29,6 +29,7 @@ pub fn root<P: Pace>(
     ensures null_still { IsStill (root_of h.old.view.trail proto of_null.old) result → of_null.new ≡ of_null.old }
     ensures made { IfOk result (λ r. root_of h.old.view.trail proto of_null.old ≡ None → h.new.view.trail ≡ with_named_root h.old.view.trail proto r) }
     ensures null { IfOk result (λ r. root_of h.old.view.trail proto of_null.old ≡ None → of_null.new ≡ of_null_after proto of_null.old r) }
+    ensures null_root { IfSome of_null.new (λ r. IsRoot h.new.view.trail None r) }
     ensures shape { h.new.view.shape ≡ h.old.view.shape }
     ensures tree { IsTree h.new.view.trail }
     ensures heap { IsHeap h.new.view }
@@ -45,6 +46,7 @@ pub fn root<P: Pace>(
 fn root_of_object<P: Pace>(h: &mut Heap<P>, object: u32) -> Result<u32, Space>
     requires tree { IsTree h.old.view.trail }
     requires proto { MayBePrototype h.old.view.used h.old.view.trail (Some object) }
+    ensures roots { (p : Option ℕ) (r : ℕ) → IsRoot h.old.view.trail p r → IsRoot h.new.view.trail p r }
     ensures root { IfOk result (λ r. IsRoot h.new.view.trail (Some object) r) }
     ensures found { (r : ℕ) → (root_in h.old.view.trail object).map ≡ Some r → result ≡ Ok r }
     ensures space { IsSpaceExact h.old.view (root_need (root_in h.old.view.trail object).map) result }

@@ -1,0 +1,7 @@
+use Rattle.hc_tree.proofs.Keeping.{tree-kept}
+use Rattle.hc_tree.proofs.laws.trees_stay.Goals as goal
+
+pub returns : goal.returns
+returns c = record {
+  law = λ s old new before goes same tree. tree-kept old new (c.maps_are_kept.ensures.law s old new before goes) same.lives same.links same.gates same.roots tree;
+}
