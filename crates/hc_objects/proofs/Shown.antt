@@ -1,0 +1,49 @@
+-- An object as the objects' state shows it, slow or fast.
+use Rattle.std.proofs.Common.{◌≡◌, ℕ, zero, suc, ◌<◌, List, [], ◌∷◌, length, get_or, Option, Some, None, sym, ap, ◌∙◌, subst, arith}
+use Rattle.std.specs.Prelude.{slice_get}
+use Rattle.std.specs.List.{AllByRecursion}
+use Rattle.hc_value.specs.declared.prop.Prop.{Prop}
+use Rattle.hc_heap.specs.Readings.{map_in}
+use Rattle.hc_table.specs.Attributes.{IsProper}
+use Rattle.hc_table.specs.World.{object, props_at}
+use Rattle.hc_objects.specs.Came.{world_of}
+use Rattle.hc_objects.specs.Meaning.{Dictionary, dictionary_object, kept_of, object_shown}
+use Rattle.hc_objects.specs.State.{ObjectsState, IsObjects, IsKeptSo, HasMap}
+use Rattle.hc_objects.proofs.Fetching.{all-at}
+use Rattle.hc_objects.proofs.Worlds.{length-world, object-world}
+
+-- Items
+
+pub kept-item : (kept : List (Option Dictionary)) (o : ℕ) (x : Option Dictionary) → o < length kept → x ≡ get_or kept o x → kept_of kept o ≡ x
+kept-item [] o x lt at = absurd (omega arith)
+kept-item (y ∷ ys) zero x lt at = sym at
+kept-item (y ∷ ys) (suc o) x lt at = kept-item ys o x (omega arith) at
+
+-- Objects
+
+module _ {P : Type 0} (a b : ObjectsState P) (o : ℕ) (same : a ≡ b) (lt : o < length (world_of b)) where
+  pub within : o < length a.kept
+  within = subst (λ (n : ℕ). o < n) (length-world a.heap.view.trail a.kept) (subst (λ (s : ObjectsState P). o < length (world_of s)) (sym same) lt)
+
+  -- a slow object is its dictionary
+  pub slow-shown : (d : Dictionary) → kept_of b.kept o ≡ Some d → object (world_of b) o ≡ dictionary_object d
+  slow-shown d is =
+      ap (λ (s : ObjectsState P). object (world_of s) o) (sym same)
+      ∙ object-world a.heap.view.trail a.kept o within
+      ∙ ap (λ (x : Option Dictionary). object_shown a.heap.view.trail o x (map_in a.heap.view.trail o)) (ap (λ (s : ObjectsState P). kept_of s.kept o) same ∙ is)
+
+  -- a fast object is what its map says
+  pub fast-shown : kept_of b.kept o ≡ None → object (world_of b) o ≡ object_shown a.heap.view.trail o None (map_in a.heap.view.trail o)
+  fast-shown is =
+      ap (λ (s : ObjectsState P). object (world_of s) o) (sym same)
+      ∙ object-world a.heap.view.trail a.kept o within
+      ∙ ap (λ (x : Option Dictionary). object_shown a.heap.view.trail o x (map_in a.heap.view.trail o)) (ap (λ (s : ObjectsState P). kept_of s.kept o) same ∙ is)
+
+  -- and has one
+  pub fast-has : IsObjects a.heap.view a.kept a.of_null → kept_of b.kept o ≡ None → HasMap a.heap.view.trail o
+  fast-has h is = subst (λ (x : Option Dictionary). IsKeptSo a.heap.view.trail o x) (ap (λ (s : ObjectsState P). kept_of s.kept o) same ∙ is) (h.each o within)
+
+  -- its properties are proper
+  pub proper-shown : (i : ℕ) (p : Prop) → IsObjects a.heap.view a.kept a.of_null → slice_get (props_at (world_of b) o) i ≡ Some p → IsProper p
+  proper-shown i p h is =
+      all-at IsProper (props_at (world_of b) o) i p (subst (λ (s : ObjectsState P). AllByRecursion IsProper (props_at (world_of s) o)) same (h.sound.proper o)) is

@@ -1,0 +1,23 @@
+use Rattle.std.proofs.Common.{◌<◌, ℕ, Option, sym, subst, IfSome}
+use Rattle.std.specs.Prelude.{IsTrue}
+use Rattle.hc_layout.specs.declared.shape.Shape.{Shape}
+use Rattle.hc_heap.specs.Readings.{bits_in}
+use Rattle.hc_heap.specs.States.{View, IsHeap}
+use Rattle.hc_objects.specs.Filling.{IsMoved}
+use Rattle.hc_objects.proofs.Joining.{move-lawful, move-made}
+use Rattle.hc_objects.proofs.growing.move_to_child.Goals as goal
+
+pub fill_next-requires-clause-unstable : goal.fill_next-requires-clause-unstable
+fill_next-requires-clause-unstable g c = subst (λ (m : Option ℕ). IfSome m (λ x. IsTrue (bits_in c.args.h.now.view.trail x).unstable)) (sym c.requires.has) c.requires.unstable
+
+pub set_object_map-requires-clause-handed : goal.set_object_map-requires-clause-handed
+set_object_map-requires-clause-handed g c = subst (λ (s : Shape). c.args.object < s.objects) (sym c.fill_next.ensures.fitted.used) c.requires.handed
+
+pub set_object_map-requires-clause-lawful : goal.set_object_map-requires-clause-lawful
+set_object_map-requires-clause-lawful g c = move-lawful c.maps_are_kept.ensures.law c.details_rise.ensures.law c.trees_stay.ensures.law c.unused_says_nothing.ensures.law c.args.h.now.view c.fill_next.new.h.view c.args.object c.args.map c.args.child c.args.n c.held_word.result c.args.p c.stands.ensures.heap c.fill_next.ensures.heap c.fill_next.ensures.fitted c.requires.has c.requires.unstable c.requires.open c.requires.holds c.requires.shared c.requires.child c.requires.grown c.fill_next.ensures.last c.held_word.ensures.form c.held_word.ensures.holds
+
+pub returns-clause-moved : goal.returns-clause-moved
+returns-clause-moved g c =
+    let is = c.set_object_map.ensures.view in
+    subst (λ (w : View). IsMoved c.args.h.now.view w c.args.object c.args.map c.args.n c.args.p) (sym is)
+    (move-made c.maps_are_kept.ensures.law c.details_rise.ensures.law c.trees_stay.ensures.law c.unused_says_nothing.ensures.law c.args.h.now.view c.fill_next.new.h.view c.args.object c.args.map c.args.child c.args.n c.held_word.result c.args.p c.stands.ensures.heap c.fill_next.ensures.heap c.fill_next.ensures.fitted c.requires.has c.requires.unstable c.requires.open c.requires.holds c.requires.shared c.requires.child c.requires.grown c.fill_next.ensures.last c.held_word.ensures.form c.held_word.ensures.holds (subst IsHeap is c.set_object_map.ensures.heap) c.requires.tree)

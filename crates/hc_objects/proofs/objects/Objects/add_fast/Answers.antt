@@ -1,0 +1,78 @@
+use Rattle.std.proofs.Common.{◌≡◌, ◌∙◌, Some, ap, sym, subst}
+use Rattle.std.specs.Prelude.{IsSome}
+use Rattle.hc_heap.specs.Readings.{gate_in}
+use Rattle.hc_heap.specs.Frames.{goes-on}
+use Rattle.hc_heap.specs.States.{View, HeapState}
+use Rattle.hc_table.specs.Changes.{Added}
+use Rattle.hc_objects.specs.Came.{Steps}
+use Rattle.hc_objects.specs.State.{ObjectsState}
+use Rattle.hc_objects.proofs.Adding.{call-ready, call-sound, call-world}
+use Rattle.hc_objects.proofs.Shown.{fast-has}
+use Rattle.hc_objects.proofs.objects.Objects.add_fast.Goals as goal
+
+pub map_of-map-requires : goal.map_of-map-requires
+map_of-map-requires g c = record { fast = fast-has _ _ c.args.o c.self.view_is c.requires.object c.self.invariant c.requires.fast }
+
+pub unwrap-gate-requires : goal.unwrap-gate-requires
+unwrap-gate-requires g c =
+    let read : c.map_of-map.new.h.view ≡ c.self.inside.heap.view = ap (λ (s : HeapState g.row.P.Denot). s.view) c.map_of-map.ensures.new in
+    subst IsSome (ap (λ (w : View). gate_in w.trail c.map_of-map.result) (sym read) ∙ sym c.gate.ensures.value) c.map_of-map.ensures.open
+
+pub grow_object-requires-clause-few : goal.grow_object-requires-clause-few
+grow_object-requires-clause-few g c =
+    let read : c.map_of-map.new.h.view ≡ c.self.inside.heap.view = ap (λ (s : HeapState g.row.P.Denot). s.view) c.map_of-map.ensures.new in
+    let again : c.gate.new.self.view ≡ c.map_of-map.new.h.view = ap (λ (s : HeapState g.row.P.Denot). s.view) c.gate.ensures.new in
+    let gate : gate_in c.map_of-map.new.h.view.trail c.map_of-map.result ≡ Some c.unwrap-gate.result = sym c.gate.ensures.value ∙ c.unwrap-gate.ensures in
+    (call-ready _ _ c.args.o c.args.p c.self.view_is c.self.invariant c.requires.object c.requires.fast c.requires.shared c.map_of-map.new.h.view c.gate.new.self.view c.map_of-map.result c.unwrap-gate.result read again c.map_of-map.ensures.map gate c.requires.few c.requires.absent).few
+
+pub grow_object-requires-clause-open : goal.grow_object-requires-clause-open
+grow_object-requires-clause-open g c =
+    let read : c.map_of-map.new.h.view ≡ c.self.inside.heap.view = ap (λ (s : HeapState g.row.P.Denot). s.view) c.map_of-map.ensures.new in
+    let again : c.gate.new.self.view ≡ c.map_of-map.new.h.view = ap (λ (s : HeapState g.row.P.Denot). s.view) c.gate.ensures.new in
+    let gate : gate_in c.map_of-map.new.h.view.trail c.map_of-map.result ≡ Some c.unwrap-gate.result = sym c.gate.ensures.value ∙ c.unwrap-gate.ensures in
+    (call-ready _ _ c.args.o c.args.p c.self.view_is c.self.invariant c.requires.object c.requires.fast c.requires.shared c.map_of-map.new.h.view c.gate.new.self.view c.map_of-map.result c.unwrap-gate.result read again c.map_of-map.ensures.map gate c.requires.few c.requires.absent).is_open
+
+pub grow_object-requires-clause-holds : goal.grow_object-requires-clause-holds
+grow_object-requires-clause-holds g c =
+    let read : c.map_of-map.new.h.view ≡ c.self.inside.heap.view = ap (λ (s : HeapState g.row.P.Denot). s.view) c.map_of-map.ensures.new in
+    let again : c.gate.new.self.view ≡ c.map_of-map.new.h.view = ap (λ (s : HeapState g.row.P.Denot). s.view) c.gate.ensures.new in
+    let gate : gate_in c.map_of-map.new.h.view.trail c.map_of-map.result ≡ Some c.unwrap-gate.result = sym c.gate.ensures.value ∙ c.unwrap-gate.ensures in
+    (call-ready _ _ c.args.o c.args.p c.self.view_is c.self.invariant c.requires.object c.requires.fast c.requires.shared c.map_of-map.new.h.view c.gate.new.self.view c.map_of-map.result c.unwrap-gate.result read again c.map_of-map.ensures.map gate c.requires.few c.requires.absent).holds
+
+pub grow_object-requires-clause-lacks : goal.grow_object-requires-clause-lacks
+grow_object-requires-clause-lacks g c =
+    let read : c.map_of-map.new.h.view ≡ c.self.inside.heap.view = ap (λ (s : HeapState g.row.P.Denot). s.view) c.map_of-map.ensures.new in
+    let again : c.gate.new.self.view ≡ c.map_of-map.new.h.view = ap (λ (s : HeapState g.row.P.Denot). s.view) c.gate.ensures.new in
+    let gate : gate_in c.map_of-map.new.h.view.trail c.map_of-map.result ≡ Some c.unwrap-gate.result = sym c.gate.ensures.value ∙ c.unwrap-gate.ensures in
+    (call-ready _ _ c.args.o c.args.p c.self.view_is c.self.invariant c.requires.object c.requires.fast c.requires.shared c.map_of-map.new.h.view c.gate.new.self.view c.map_of-map.result c.unwrap-gate.result read again c.map_of-map.ensures.map gate c.requires.few c.requires.absent).lacks
+
+pub grow_object-requires-clause-handed : goal.grow_object-requires-clause-handed
+grow_object-requires-clause-handed g c =
+    let read : c.map_of-map.new.h.view ≡ c.self.inside.heap.view = ap (λ (s : HeapState g.row.P.Denot). s.view) c.map_of-map.ensures.new in
+    let again : c.gate.new.self.view ≡ c.map_of-map.new.h.view = ap (λ (s : HeapState g.row.P.Denot). s.view) c.gate.ensures.new in
+    let gate : gate_in c.map_of-map.new.h.view.trail c.map_of-map.result ≡ Some c.unwrap-gate.result = sym c.gate.ensures.value ∙ c.unwrap-gate.ensures in
+    (call-ready _ _ c.args.o c.args.p c.self.view_is c.self.invariant c.requires.object c.requires.fast c.requires.shared c.map_of-map.new.h.view c.gate.new.self.view c.map_of-map.result c.unwrap-gate.result read again c.map_of-map.ensures.map gate c.requires.few c.requires.absent).handed
+
+pub invariant_of-self : goal.invariant_of-self
+invariant_of-self g c =
+    let read : c.map_of-map.new.h.view ≡ c.self.inside.heap.view = ap (λ (s : HeapState g.row.P.Denot). s.view) c.map_of-map.ensures.new in
+    let again : c.gate.new.self.view ≡ c.map_of-map.new.h.view = ap (λ (s : HeapState g.row.P.Denot). s.view) c.gate.ensures.new in
+    let gate : gate_in c.map_of-map.new.h.view.trail c.map_of-map.result ≡ Some c.unwrap-gate.result = sym c.gate.ensures.value ∙ c.unwrap-gate.ensures in
+    call-sound _ _ c.args.o c.args.p c.self.view_is c.self.invariant c.requires.object c.requires.fast c.requires.shared c.map_of-map.new.h.view c.gate.new.self.view c.map_of-map.result c.unwrap-gate.result read again c.map_of-map.ensures.map gate c.maps_are_kept.ensures.law c.details_rise.ensures.law c.trees_stay.ensures.law c.unused_says_nothing.ensures.law c.changes_keep.ensures.law c.grow_object.new.h.view c.requires.absent c.requires.proper c.grow_object.result c.grow_object.ensures.moved
+    (λ no. ap (λ (s : HeapState g.row.P.Denot). s.view) (c.grow_object.ensures.still no))
+
+pub returns-clause-added : goal.returns-clause-added
+returns-clause-added g c = λ yes.
+    let read : c.map_of-map.new.h.view ≡ c.self.inside.heap.view = ap (λ (s : HeapState g.row.P.Denot). s.view) c.map_of-map.ensures.new in
+    let again : c.gate.new.self.view ≡ c.map_of-map.new.h.view = ap (λ (s : HeapState g.row.P.Denot). s.view) c.gate.ensures.new in
+    let gate : gate_in c.map_of-map.new.h.view.trail c.map_of-map.result ≡ Some c.unwrap-gate.result = sym c.gate.ensures.value ∙ c.unwrap-gate.ensures in
+    let moved = c.grow_object.ensures.moved yes in
+    let after : ObjectsState g.row.P.Denot = record { heap = c.grow_object.new.h; kept = c.self.inside.kept.items; of_null = c.self.inside.of_null } in
+    let on = g.met.P.Pace.goes_on in
+    subst (λ (s : ObjectsState g.row.P.Denot). Steps g.P.Pace.went s (Added c.args.o c.args.p) after) c.self.view_is (record {
+      world = call-world _ _ c.args.o c.args.p c.self.view_is c.self.invariant c.requires.object c.requires.fast c.requires.shared c.map_of-map.new.h.view c.gate.new.self.view c.map_of-map.result c.unwrap-gate.result read again c.map_of-map.ensures.map gate c.maps_are_kept.ensures.law c.details_rise.ensures.law c.trees_stay.ensures.law c.unused_says_nothing.ensures.law c.changes_keep.ensures.law c.grow_object.new.h.view moved;
+      shape = moved.changed.shape ∙ ap (λ (w : View). w.shape) (again ∙ read);
+      goes = goes-on c.self.inside.heap.desk c.map_of-map.new.h.desk c.grow_object.new.h.desk c.map_of-map.ensures.goes
+          (goes-on c.map_of-map.new.h.desk c.gate.new.self.desk c.grow_object.new.h.desk c.gate.ensures.goes c.grow_object.ensures.goes);
+      went = on _ _ _ _ _ _ c.map_of-map.ensures.went (on _ _ _ _ _ _ c.gate.ensures.went c.grow_object.ensures.went);
+    })

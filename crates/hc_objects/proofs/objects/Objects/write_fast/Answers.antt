@@ -1,0 +1,62 @@
+use Rattle.std.proofs.Common.{◌≡◌, ℕ, ◌+◌, ◌<◌, Option, Some, None, length, ap, sym, subst}
+use Rattle.std.specs.Prelude.{IsSomeAnd}
+use Rattle.hc_value.specs.Prop.{kind_of}
+use Rattle.hc_heap.specs.Writes.{Slot}
+use Rattle.hc_heap.specs.Readings.{store_in}
+use Rattle.hc_heap.specs.States.{View, with_write}
+use Rattle.hc_table.specs.Changes.{Wrote, kind_at}
+use Rattle.hc_table.specs.World.{props_at}
+use Rattle.hc_objects.specs.Came.{Steps}
+use Rattle.hc_objects.specs.Meaning.{kept_of, world}
+use Rattle.hc_objects.proofs.Shown.{within}
+use Rattle.hc_objects.specs.State.{ObjectsState}
+use Rattle.hc_objects.proofs.Writing.{Laws, slot-there, write-world, write-sound}
+use Rattle.hc_objects.proofs.objects.Objects.write_fast.Goals as goal
+
+used-same : (old new : View) (i w : ℕ) (first : Option ℕ) → IsSomeAnd first (λ x. new ≡ with_write old (Slot (x + i) w)) → new.used.objects ≡ old.used.objects
+used-same old new i w (Some x) e = ap (λ (v : View). v.used.objects) e
+used-same old new i w None e = absurd e
+
+shape-same : (old new : View) (i w : ℕ) (first : Option ℕ) → IsSomeAnd first (λ x. new ≡ with_write old (Slot (x + i) w)) → new.shape ≡ old.shape
+shape-same old new i w (Some x) e = ap (λ (v : View). v.shape) e
+shape-same old new i w None e = absurd e
+
+pub put_slot-requires-clause-within : goal.put_slot-requires-clause-within
+put_slot-requires-clause-within g c =
+    let laws : Laws = record { maps = c.maps_are_kept.ensures.law; details = c.details_rise.ensures.law; trees = c.trees_stay.ensures.law; unused = c.unused_says_nothing.ensures.law; gates = c.gates_are_open.ensures.law; changes = c.changes_keep.ensures.law } in
+    let old = c.self.inside.heap.view in
+    let kept = c.self.inside.kept.items in
+    let there : c.args.o < length kept = within _ _ c.args.o c.self.view_is c.requires.object in
+    let fast : kept_of kept c.args.o ≡ None = subst (λ (s : ObjectsState g.row.P.Denot). kept_of s.kept c.args.o ≡ None) (sym c.self.view_is) c.requires.fast in
+    let kind : kind_at (props_at (world old.trail kept) c.args.o) c.args.i ≡ Some (kind_of c.args.held) =
+    subst (λ (s : ObjectsState g.row.P.Denot). kind_at (props_at (world s.heap.view.trail s.kept) c.args.o) c.args.i ≡ Some (kind_of c.args.held)) (sym c.self.view_is) c.requires.kind in
+    slot-there laws old kept c.self.inside.of_null c.self.invariant c.args.o there fast c.args.i c.args.held kind
+
+pub invariant_of-self : goal.invariant_of-self
+invariant_of-self g c =
+    let laws : Laws = record { maps = c.maps_are_kept.ensures.law; details = c.details_rise.ensures.law; trees = c.trees_stay.ensures.law; unused = c.unused_says_nothing.ensures.law; gates = c.gates_are_open.ensures.law; changes = c.changes_keep.ensures.law } in
+    let old = c.self.inside.heap.view in
+    let kept = c.self.inside.kept.items in
+    let there : c.args.o < length kept = within _ _ c.args.o c.self.view_is c.requires.object in
+    let fast : kept_of kept c.args.o ≡ None = subst (λ (s : ObjectsState g.row.P.Denot). kept_of s.kept c.args.o ≡ None) (sym c.self.view_is) c.requires.fast in
+    let kind : kind_at (props_at (world old.trail kept) c.args.o) c.args.i ≡ Some (kind_of c.args.held) =
+    subst (λ (s : ObjectsState g.row.P.Denot). kind_at (props_at (world s.heap.view.trail s.kept) c.args.o) c.args.i ≡ Some (kind_of c.args.held)) (sym c.self.view_is) c.requires.kind in
+    write-sound laws old kept c.self.inside.of_null c.self.invariant c.args.o there fast c.args.i c.args.held kind c.held_word-word.result c.held_word-word.ensures.form c.held_word-word.ensures.holds c.put_slot.new.h.view
+    (used-same old c.put_slot.new.h.view c.args.i c.held_word-word.result (store_in old.trail c.args.o).first c.put_slot.ensures.view) c.put_slot.ensures.view c.put_slot.ensures.heap
+
+pub returns-clause-steps : goal.returns-clause-steps
+returns-clause-steps g c =
+    let laws : Laws = record { maps = c.maps_are_kept.ensures.law; details = c.details_rise.ensures.law; trees = c.trees_stay.ensures.law; unused = c.unused_says_nothing.ensures.law; gates = c.gates_are_open.ensures.law; changes = c.changes_keep.ensures.law } in
+    let old = c.self.inside.heap.view in
+    let kept = c.self.inside.kept.items in
+    let there : c.args.o < length kept = within _ _ c.args.o c.self.view_is c.requires.object in
+    let fast : kept_of kept c.args.o ≡ None = subst (λ (s : ObjectsState g.row.P.Denot). kept_of s.kept c.args.o ≡ None) (sym c.self.view_is) c.requires.fast in
+    let kind : kind_at (props_at (world old.trail kept) c.args.o) c.args.i ≡ Some (kind_of c.args.held) =
+    subst (λ (s : ObjectsState g.row.P.Denot). kind_at (props_at (world s.heap.view.trail s.kept) c.args.o) c.args.i ≡ Some (kind_of c.args.held)) (sym c.self.view_is) c.requires.kind in
+    let after : ObjectsState g.row.P.Denot = record { heap = c.put_slot.new.h; kept = kept; of_null = c.self.inside.of_null } in
+    subst (λ (s : ObjectsState g.row.P.Denot). Steps g.P.Pace.went s (Wrote c.args.o c.args.i c.args.held) after) c.self.view_is (record {
+      world = write-world laws old kept c.self.inside.of_null c.self.invariant c.args.o there fast c.args.i c.args.held kind c.held_word-word.result c.held_word-word.ensures.form c.held_word-word.ensures.holds c.put_slot.new.h.view c.put_slot.ensures.view c.put_slot.ensures.heap;
+      shape = shape-same old c.put_slot.new.h.view c.args.i c.held_word-word.result (store_in old.trail c.args.o).first c.put_slot.ensures.view;
+      goes = c.put_slot.ensures.goes;
+      went = c.put_slot.ensures.went;
+    })

@@ -1,0 +1,122 @@
+-- What an operation on one object writes, and what it leaves.
+use Rattle.std.specs.Prelude.{◌≡◌, ◌≢◌, ℕ, ◌+◌, ◌<◌, ◌≤◌, false, Option, Some, None, List, length}
+use Rattle.hc_layout.specs.declared.words.GateWord.{GateWord}
+use Rattle.hc_layout.specs.declared.words.RootWord.{RootWord}
+use Rattle.hc_value.specs.Prop.{kind_of}
+use Rattle.hc_value.specs.declared.field.Detail.{Detail}
+use Rattle.hc_value.specs.declared.key.Key.{Key}
+use Rattle.hc_value.specs.declared.prop.Held.{Held}
+use Rattle.hc_value.specs.declared.prop.Prop.{Prop}
+use Rattle.hc_heap.specs.Writes.{Write, Trail, Bits, ObjectMap, Root, Store, Slot}
+use Rattle.hc_heap.specs.Readings.{gate_in, parent_in, prototype_in, bits_in, map_in, root_in, store_in, slot_in}
+use Rattle.hc_heap.specs.Kept.{Adds}
+use Rattle.hc_heap.specs.States.{View, IsHeap}
+use Rattle.hc_descs.specs.Entries.{key_at}
+use Rattle.hc_descs.specs.Copies.{HasEntriesOf}
+use Rattle.hc_tree.specs.Tree.{IsTree}
+use Rattle.hc_tree.specs.Copying.{detail_at}
+use Rattle.hc_table.specs.World.{Object}
+use Rattle.hc_objects.specs.Meaning.{Dictionary, kept_of, slot_word, object_shown}
+use Rattle.hc_objects.specs.State.{Owns, AreHandedOut, IsKeptSo}
+
+-- a root word after which only o may have become a prototype, and a root that was named stays
+pub record KeepsRoot (o : ℕ) (t : Trail) (p : ℕ) (r : RootWord) : Type 0 where
+  pub proto : p ≢ o → r.is_proto ≡ (root_in t p).is_proto
+  pub map : (m : ℕ) → (root_in t p).map ≡ Some m → r.map ≡ Some m
+
+-- a write of an operation on o: to o's own words, to slots that it owns or that are new, or one of the tree
+-- that deprecates no map
+abbrev pub Touches : View → ℕ → Trail → Write → Type 0
+Touches old o t (ObjectMap p h) = p ≡ o
+Touches old o t (Store p w) = p ≡ o
+Touches old o t (Slot s w) = s < old.used.slots → Owns old.trail o s
+Touches old o t (Root p r) = KeepsRoot o t p r
+Touches old o t (Bits m b) = b.deprecated ≡ (bits_in t m).deprecated
+Touches old o t _ = Unit {0}
+
+-- an operation on o came from one view to another
+pub record Changed (old new : View) (o : ℕ) : Type 0 where
+  pub writes : Adds (Touches old o) old.trail new.trail
+  pub shape : new.shape ≡ old.shape
+  pub slots : old.used.slots ≤ new.used.slots
+  pub tree : IsTree new.trail
+  pub heap : IsHeap new
+
+-- an object's words and slots are as they were
+pub record WordsStay (old new : Trail) (p : ℕ) : Type 0 where
+  pub map : map_in new p ≡ map_in old p
+  pub store : store_in new p ≡ store_in old p
+  pub slots : (s : ℕ) → Owns old p s → slot_in new s ≡ slot_in old s
+  pub proto : (root_in new p).is_proto ≡ (root_in old p).is_proto
+
+-- the items kept are as they were, but for one object's
+pub record KeptBut (o : ℕ) (old new : List (Option Dictionary)) : Type 0 where
+  pub others : (p : ℕ) → p ≢ o → kept_of new p ≡ kept_of old p
+  pub there : (p : ℕ) → p ≢ o → p < length new → p < length old
+
+-- after an operation on an object it is kept as its words say, its slots are those that it had, or new ones, and
+-- where its map is private, no other object has it
+pub record IsWell (old new : View) (item : Option Dictionary) (o : ℕ) : Type 0 where
+  pub as_kept : IsKeptSo new.trail o item
+  pub store : AreHandedOut new.used.slots (store_in new.trail o)
+  pub owns : (s : ℕ) → Owns new.trail o s → s < old.used.slots → Owns old.trail o s
+  pub alone : (p m : ℕ) (g : GateWord) → p ≢ o → map_in new.trail o ≡ Some m → map_in old.trail p ≡ Some m → gate_in new.trail m ≡ Some g → g.is_private ≡ false
+
+-- each map that was opened is private, or the child of another
+abbrev pub OpensNoRoot : Trail → Trail → Type 0
+OpensNoRoot old new = (m : ℕ) (g : GateWord) → gate_in old m ≡ None → gate_in new m ≡ Some g → g.is_private ≡ false → parent_in new m ≡ Some None → ⊥
+
+-- a property of this key that holds so much
+abbrev pub property : Key → Held → Prop
+property key held = record { name = key.name; attrs = key.attrs; held = held }
+
+-- the key of a property
+abbrev pub key_of : Prop → Key
+key_of p = record { name = p.name; kind = kind_of p.held; attrs = p.attrs }
+
+-- a map has the entries of a map with n of them, and one more, with this key, whose field admits so much
+pub record IsGrown (t : Trail) (m c n : ℕ) (key : Key) (detail : Detail) : Type 0 where
+  pub gate : GateWord
+  pub is_open : gate_in t c ≡ Some gate
+  pub count : gate.entries ≡ n + 1
+  pub unlocked : gate.is_locked ≡ false
+  pub prototype : prototype_in t c ≡ prototype_in t m
+  pub entries : HasEntriesOf t c m n
+  pub last : key_at t c n ≡ Some key
+  pub admits : detail_at t c n ≡ Some detail
+
+-- the words of an object's first n slots are as they were, wherever its slots are
+abbrev pub SlotsStay : Trail → Trail → ℕ → ℕ → Type 0
+SlotsStay old new o n = (k : ℕ) → k < n → slot_word new o k ≡ slot_word old o k
+
+-- an operation on an object, which is kept so afterwards, made this of it
+pub record Stepped (old new : View) (item : Option Dictionary) (o : ℕ) (x : Object) : Type 0 where
+  pub changed : Changed old new o
+  pub well : IsWell old new item o
+  pub opens : OpensNoRoot old.trail new.trail
+  pub value : object_shown new.trail o item (map_in new.trail o) ≡ x
+
+-- writes of slots, from a first one on
+abbrev pub FillsSlots : ℕ → Trail → Write → Type 0
+FillsSlots first t (Slot s w) = first ≤ s
+FillsSlots first t _ = ⊥
+
+-- the words of n slots were copied to others, and slots before these stay
+pub record AreCopied (old new : Trail) (from upto n : ℕ) : Type 0 where
+  pub words : (k : ℕ) → k < n → slot_in new (upto + k) ≡ slot_in old (from + k)
+  pub writes : Adds (FillsSlots upto) old new
+
+-- writes that give an object new slots, from a first one on
+abbrev pub GrowsStore : ℕ → ℕ → Trail → Write → Type 0
+GrowsStore o first t (Slot s w) = first ≤ s
+GrowsStore o first t (Store p w) = p ≡ o
+GrowsStore o first t _ = ⊥
+
+-- an object got new slots, more than n, with the words of its first n slots
+pub record HasMoved (old new : View) (o n capacity : ℕ) : Type 0 where
+  pub more : n < capacity
+  pub store : store_in new.trail o ≡ record { capacity = capacity; first = Some old.used.slots }
+  pub words : SlotsStay old.trail new.trail o n
+  pub writes : Adds (GrowsStore o old.used.slots) old.trail new.trail
+  pub used : new.used ≡ record old.used { slots = old.used.slots + capacity }
+  pub shape : new.shape ≡ old.shape

@@ -1,0 +1,67 @@
+-- How an object's slots are filled, and how it comes to a map with one entry more.
+use Rattle.std.specs.Prelude.{◌≡◌, ℕ, ◌+◌, ◌<◌, ◌≤◌, nat_lt, false, Some, IsSomeAnd, if◌then◌else◌}
+use Rattle.hc_layout.specs.Capacity.{cap_of}
+use Rattle.hc_layout.specs.declared.shape.Region.TheVariants.{Slots}
+use Rattle.hc_value.specs.Prop.{kind_of}
+use Rattle.hc_value.specs.declared.field.Rep.TheVariants.{Tagged}
+use Rattle.hc_value.specs.declared.key.Key.{Key}
+use Rattle.hc_value.specs.declared.prop.Prop.{Prop}
+use Rattle.hc_heap.specs.Writes.{Write, Trail, Store, Slot}
+use Rattle.hc_heap.specs.Readings.{map_in, root_in, store_in}
+use Rattle.hc_heap.specs.Lawful.{IsFormOf}
+use Rattle.hc_heap.specs.Kept.{Adds}
+use Rattle.hc_heap.specs.States.{View, HasRoom}
+use Rattle.hc_descs.specs.Entries.{count_of}
+use Rattle.hc_tree.specs.Growth.{child_need, live_child}
+use Rattle.hc_tree.specs.Needs.{HasSpace}
+use Rattle.hc_tree.specs.Tree.{tagged_field}
+use Rattle.hc_objects.specs.Meaning.{held_in, slot_word}
+use Rattle.hc_objects.specs.State.{Owns, AreHandedOut}
+use Rattle.hc_objects.specs.Changes.{Changed, OpensNoRoot, IsGrown, SlotsStay, key_of}
+
+-- how many new slots an object needs that has n properties, and so many slots, to get one more
+abbrev pub slots_need : ℕ → ℕ → ℕ
+slots_need n capacity = if nat_lt n capacity then 0 else cap_of (n + 1)
+
+-- writes to an object's store, and to slots that it owns or that are new
+abbrev pub FillsStore : View → ℕ → Trail → Write → Type 0
+FillsStore old o t (Store p w) = p ≡ o
+FillsStore old o t (Slot s w) = s < old.used.slots → Owns old.trail o s
+FillsStore old o t _ = ⊥
+
+-- an object has room for more than n properties, and the words of its first n slots are as they were
+pub record IsFitted (old new : View) (o n : ℕ) : Type 0 where
+  pub writes : Adds (FillsStore old o) old.trail new.trail
+  pub shape : new.shape ≡ old.shape
+  pub used : new.used ≡ record old.used { slots = new.used.slots }
+  pub slots : old.used.slots ≤ new.used.slots
+  pub store : AreHandedOut new.used.slots (store_in new.trail o)
+  pub owns : (s : ℕ) → Owns new.trail o s → s < old.used.slots → Owns old.trail o s
+  pub room : n < (store_in new.trail o).capacity
+  pub words : SlotsStay old.trail new.trail o n
+
+-- an object came from a map with n entries to a shared one that has one more, and its slot holds what the property does
+pub record IsMoved (old new : View) (o m n : ℕ) (p : Prop) : Type 0 where
+  pub child : ℕ
+  pub changed : Changed old new o
+  pub opens : OpensNoRoot old.trail new.trail
+  pub grown : IsGrown new.trail m child n (key_of p) tagged_field
+  pub shared : grown.gate.is_private ≡ false
+  pub moved : map_in new.trail o ≡ Some child
+  pub proto : (root_in new.trail o).is_proto ≡ (root_in old.trail o).is_proto
+  pub room : n < (store_in new.trail o).capacity
+  pub words : SlotsStay old.trail new.trail o n
+  pub form : IsFormOf (kind_of p.held) Tagged (slot_word new.trail o n)
+  pub holds : held_in (kind_of p.held) Tagged (slot_word new.trail o n) ≡ p.held
+  pub store : AreHandedOut new.used.slots (store_in new.trail o)
+  pub owns : (s : ℕ) → Owns new.trail o s → s < old.used.slots → Owns old.trail o s
+  pub objects : new.used.objects ≡ old.used.objects
+
+-- there is room for an object with n properties to get one more: for its slots, and for the child of its map where there is no live one
+pub record MayGrowBy (v : View) (o m n : ℕ) (key : Key) : Type 0 where
+  pub slots : HasRoom v Slots (slots_need n (store_in v.trail o).capacity)
+  pub child : HasSpace v (child_need (live_child v.trail m key) n)
+
+-- there is room for a property more of an object that has a map
+abbrev pub HasRoomFor : View → ℕ → Prop → Type 0
+HasRoomFor v o p = IsSomeAnd (map_in v.trail o) (λ m. MayGrowBy v o m (count_of v.trail m) (key_of p))

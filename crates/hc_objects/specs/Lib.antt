@@ -1,0 +1,7 @@
+pub mod Listed
+pub mod Words
+pub mod Meaning
+pub mod State
+pub mod Changes
+pub mod Filling
+pub mod Came

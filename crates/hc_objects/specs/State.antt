@@ -1,0 +1,76 @@
+-- What contracts see of objects, and what holds of them at every moment.
+use Rattle.std.specs.Prelude.{◌≡◌, ℕ, ◌+◌, ◌<◌, ◌≤◌, false, IsTrue, Option, Some, None, IsSome, IfSome, IsSomeAnd, List, length}
+use Rattle.hc_layout.specs.declared.words.GateWord.{GateWord}
+use Rattle.hc_layout.specs.declared.words.StoreWord.{StoreWord}
+use Rattle.hc_heap.specs.Writes.{Trail}
+use Rattle.hc_heap.specs.Readings.{gate_in, parent_in, prototype_in, bits_in, map_in, root_in, store_in}
+use Rattle.hc_heap.specs.Lawful.{HoldsEntries}
+use Rattle.hc_heap.specs.States.{View, HeapState, IsHeap}
+use Rattle.hc_table.specs.Kept.{Kept, IsKept}
+use Rattle.hc_tree.specs.Tree.{IsTree, IsRoot}
+use Rattle.hc_tree.specs.Growth.{root_of}
+use Rattle.hc_objects.specs.Meaning.{Dictionary, kept_of, world}
+
+-- objects: their heap, what is kept of slow ones, and the root of the maps that have no prototype
+pub record ObjectsState (P : Type 0) : Type 0 where
+  pub heap : HeapState P
+  pub kept : List (Option Dictionary)
+  pub of_null : Option ℕ
+
+-- an object is fast with a map: the map is open, the object's slots hold what it asks, and it is private exactly
+-- where the object is or was a prototype
+pub record IsFast (t : Trail) (o m : ℕ) (g : GateWord) : Type 0 where
+  pub is_open : gate_in t m ≡ Some g
+  pub holds : HoldsEntries t o m g
+  pub private : g.is_private ≡ (root_in t o).is_proto
+
+-- some map with which an object is fast
+pub record HasMap (t : Trail) (o : ℕ) : Type 0 where
+  pub map : ℕ
+  pub gate : GateWord
+  pub is_map : map_in t o ≡ Some map
+  pub fast : IsFast t o map gate
+
+-- an object is kept as its words say: a slow one has no map, and a fast one has one that fits
+abbrev pub IsKeptSo : Trail → ℕ → Option Dictionary → Type 0
+IsKeptSo t o (Some d) = map_in t o ≡ None
+IsKeptSo t o None = HasMap t o
+
+-- a slot is one of these
+abbrev pub IsIn : StoreWord → ℕ → Type 0
+IsIn w s = IsSomeAnd w.first (λ first. (first ≤ s) × (s < first + w.capacity))
+
+-- a slot is an object's
+abbrev pub Owns : Trail → ℕ → ℕ → Type 0
+Owns t o s = IsIn (store_in t o) s
+
+-- these slots were handed out
+pub record AreHandedOut (slots : ℕ) (w : StoreWord) : Type 0 where
+  pub first : 0 < w.capacity → IsSome w.first
+  pub there : IfSome w.first (λ first. first + w.capacity ≤ slots)
+
+-- no two objects have one private map
+abbrev pub AreAlone : Trail → ℕ → Type 0
+AreAlone t n = (a b m : ℕ) (g : GateWord) → a < n → b < n → map_in t a ≡ Some m → map_in t b ≡ Some m → gate_in t m ≡ Some g → IsTrue g.is_private → a ≡ b
+
+-- a shared map that is nobody's child is the root that its prototype names; the root of null is one
+pub record AreRoots (t : Trail) (of_null : Option ℕ) : Type 0 where
+  pub null : IfSome of_null (λ r. IsRoot t None r)
+  pub named : (m : ℕ) (g : GateWord) (p : Option ℕ) → gate_in t m ≡ Some g → g.is_private ≡ false → parent_in t m ≡ Some None → prototype_in t m ≡ Some p → root_of t p of_null ≡ Some m
+
+-- the objects as tables see them
+abbrev pub tables_of : View → List (Option Dictionary) → Kept
+tables_of v kept = record { world = world v.trail kept; limit = v.shape.objects }
+
+-- what holds of objects at every moment; no map is deprecated so far
+pub record IsObjects (v : View) (kept : List (Option Dictionary)) (of_null : Option ℕ) : Type 0 where
+  pub heap : IsHeap v
+  pub tree : IsTree v.trail
+  pub live : (m : ℕ) → (bits_in v.trail m).deprecated ≡ false
+  pub roots : AreRoots v.trail of_null
+  pub items : length kept ≡ v.used.objects
+  pub each : (o : ℕ) → o < length kept → IsKeptSo v.trail o (kept_of kept o)
+  pub stores : (o : ℕ) → AreHandedOut v.used.slots (store_in v.trail o)
+  pub owners : (o p s : ℕ) → Owns v.trail o s → Owns v.trail p s → o ≡ p
+  pub alone : AreAlone v.trail (length kept)
+  pub sound : IsKept (tables_of v kept)

@@ -1,0 +1,105 @@
+//! An object that gets one property more, and the map for it.
+ghost use Rattle.std.specs.Prelude.{◌≡◌, ◌+◌, ◌<◌, ◌↔◌, false, Some, IsTrue};
+ghost use Rattle.hc_layout.specs.declared.capacity.TheConstants.{MAX_FAST};
+ghost use Rattle.hc_layout.specs.declared.shape.Region.TheVariants.{Slots};
+ghost use Rattle.hc_heap.specs.Lawful.{HoldsEntries, IsKey};
+ghost use Rattle.hc_heap.specs.Readings.{bits_in, gate_in, map_in, root_in, store_in};
+ghost use Rattle.hc_heap.specs.States.{IsHeap, Goes, HasRoom};
+ghost use Rattle.hc_descs.specs.Entries.{LacksName};
+ghost use Rattle.hc_tree.specs.Growth.{IsUnmoved};
+ghost use Rattle.hc_tree.specs.Tree.{IsTree, IsProperKey, gate_with, tagged_field};
+ghost use Rattle.hc_objects.specs.Changes.{IsGrown, key_of};
+ghost use Rattle.hc_objects.specs.Filling.{IsMoved, MayGrowBy, slots_need};
+ghost use Rattle.hc_objects.specs.State.{AreHandedOut};
+ghost use Rattle.hc_objects.specs.Words.{IsHeldInRange};
+
+use crate::held::held_word;
+use crate::stores::{fill_next, slots_needed};
+use hc_heap::{Heap, Pace, details_rise, unused_says_nothing};
+use hc_layout::Region;
+use hc_links::linked_are_unstable;
+use hc_tree::{child_or_make, maps_are_kept, trees_stay};
+use hc_value::{Class, Constness, Detail, Key, Prop, Rep};
+
+// Fills the slot of an object's next property, and has the object come to a map with one entry more.
+fn move_to_child<P: Pace>(h: &mut Heap<P>, object: u32, map: u32, child: u32, n: u32, p: Prop)
+    requires tree { IsTree h.old.view.trail }
+    requires few { n < MAX_FAST }
+    requires has { map_in h.old.view.trail object ≡ Some map }
+    requires unstable { IsTrue (bits_in h.old.view.trail map).unstable }
+    requires open { gate_in h.old.view.trail map ≡ Some (gate_with n false) }
+    requires holds { HoldsEntries h.old.view.trail object map (gate_with n false) }
+    requires shared { (root_in h.old.view.trail object).is_proto ≡ false }
+    requires child { gate_in h.old.view.trail child ≡ Some (gate_with (n + 1) false) }
+    requires grown { IsGrown h.old.view.trail map child n (key_of p) tagged_field }
+    requires range { IsHeldInRange p.held }
+    requires out { AreHandedOut h.old.view.used.slots (store_in h.old.view.trail object) }
+    requires handed { object < h.old.view.used.objects }
+    requires room { HasRoom h.old.view Slots (slots_need n (store_in h.old.view.trail object).capacity) }
+    ensures moved { IsMoved h.old.view h.new.view object map n p }
+    ensures goes { Goes h.old.desk h.new.desk }
+    ensures went { P.went h.old.pace h.old.desk.trail h.new.desk.trail h.new.pace }
+{
+    maps_are_kept();
+    details_rise();
+    trees_stay();
+    unused_says_nothing();
+    h.stands();
+    fill_next(h, object, n, held_word(p.held));
+    h.set_object_map(object, Some(child));
+}
+
+// The field that admits everything.
+fn tagged_detail() -> Detail
+    ensures { result ≡ tagged_field }
+{
+    Detail {
+        rep: Rep::Tagged,
+        constness: Constness::Mutable,
+        class: Class::Any,
+    }
+}
+
+// Has an object with n properties get one more: it comes to the child of its map. The answer is whether there was
+// room; where there was none, nothing is stored.
+pub(crate) fn grow_object<P: Pace>(h: &mut Heap<P>, object: u32, map: u32, n: u32, p: Prop) -> bool
+    requires tree { IsTree h.old.view.trail }
+    requires few { n < MAX_FAST }
+    requires live { (bits_in h.old.view.trail map).deprecated ≡ false }
+    requires has { map_in h.old.view.trail object ≡ Some map }
+    requires open { gate_in h.old.view.trail map ≡ Some (gate_with n false) }
+    requires holds { HoldsEntries h.old.view.trail object map (gate_with n false) }
+    requires shared { (root_in h.old.view.trail object).is_proto ≡ false }
+    requires key { IsKey (key_of p) }
+    requires proper { IsProperKey (key_of p) }
+    requires lacks { LacksName h.old.view.trail map n p.name }
+    requires range { IsHeldInRange p.held }
+    requires out { AreHandedOut h.old.view.used.slots (store_in h.old.view.trail object) }
+    requires handed { object < h.old.view.used.objects }
+    ensures room { IsTrue result ↔ MayGrowBy h.old.view object map n (key_of p) }
+    ensures moved { IsTrue result → IsMoved h.old.view h.new.view object map n p }
+    ensures still { result ≡ false → IsUnmoved h.old h.new }
+    ensures goes { Goes h.old.desk h.new.desk }
+    ensures went { P.went h.old.pace h.old.desk.trail h.new.desk.trail h.new.pace }
+{
+    maps_are_kept();
+    details_rise();
+    unused_says_nothing();
+    linked_are_unstable();
+    h.stands();
+    let store = h.store(object);
+    if !h.room(Region::Slots, slots_needed(n, store.capacity)) {
+        return false;
+    }
+    let held = p.held;
+    let key = Key {
+        name: p.name,
+        kind: held.kind(),
+        attrs: p.attrs,
+    };
+    let Ok(child) = child_or_make(h, map, key, tagged_detail()) else {
+        return false;
+    };
+    move_to_child(h, object, map, child, n, p);
+    true
+}

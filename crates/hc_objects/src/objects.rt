@@ -1,0 +1,95 @@
+//! Objects, fast and slow.
+ghost use Rattle.std.specs.Prelude.{◌≡◌, ◌<◌, ◌↔◌, None, Some, [], length, IfOk, IsSome};
+ghost use Rattle.hc_board.specs.States.{TableId, counted};
+ghost use Rattle.hc_heap.specs.Readings.{map_in};
+ghost use Rattle.hc_heap.specs.States.{Goes, no_items};
+ghost use Rattle.hc_layout.specs.Shape.{IsShape, items_of};
+ghost use Rattle.hc_objects.specs.Meaning.{kept_of};
+ghost use Rattle.hc_objects.specs.State.{IsObjects};
+
+use crate::dictionary::Dictionary;
+use hc_heap::{Heap, Pace};
+use hc_layout::{Region, Shape};
+use hc_value::Memory;
+use std::alloc::Global;
+use std::marker::Model;
+
+/// Objects: fast ones by their maps and slots, slow ones by dictionaries.
+#[derive(Drop)]
+pub struct Objects<P: Pace> {
+    pub(crate) heap: Heap<P>,
+    pub(crate) kept: Vec<Option<Dictionary>>,
+    of_null: Option<u32>,
+    alloc: Global,
+}
+
+impl<P: Pace> Model for Objects<P> {
+    ghost use Rattle.hc_objects.specs.State.{ObjectsState, IsObjects};
+
+    ghost Value = { ObjectsState P };
+
+    ghost view = { λ o. record { heap = o.heap; kept = o.kept.items; of_null = o.of_null } };
+
+    ghost invariant = { λ o. IsObjects o.heap.view o.kept.items o.of_null };
+}
+
+impl<P: Pace> Objects<P> {
+    /// No objects, over a board whose words are 0. The pace holds no reader.
+    pub fn new(alloc: Global, shape: Shape, pace: P) -> Result<Objects<P>, Memory>
+        requires shape { IsShape shape }
+        requires pace { (board : TableId) → P.fits pace board }
+        ensures view { IfOk result (λ o. o.heap.view ≡ record { shape = shape; trail = []; used = no_items }) }
+        ensures desk { IfOk result (λ o. o.heap.desk ≡ record { board = o.heap.desk.board; trail = []; loads = 0; met = [] }) }
+        ensures pace { IfOk result (λ o. o.heap.pace ≡ pace) }
+        ensures none { IfOk result (λ o. o.kept ≡ []) }
+        ensures null { IfOk result (λ o. o.of_null ≡ None) }
+    {
+        let heap = Heap::new(alloc, shape, pace)?;
+        Ok(Objects {
+            heap,
+            kept: Vec::new(alloc),
+            of_null: None,
+            alloc,
+        })
+    }
+
+    /// What holds of objects.
+    pub fn stands(&self)
+        ensures sound { IsObjects self.now.heap.view self.now.kept self.now.of_null }
+    {
+        let _kept = &self.kept;
+    }
+
+    /// How many items of a region were handed out.
+    pub fn used(&self, region: Region) -> u32
+        ensures { result ≡ items_of self.now.heap.view.used region }
+    {
+        self.heap.used(region)
+    }
+
+    /// The number of stores, up to the end of its type.
+    pub fn writes(&self) -> u64
+        ensures count { result ≡ counted (length self.now.heap.desk.trail) }
+    {
+        self.heap.writes()
+    }
+
+    /// The number of met entries, up to the end of its type.
+    pub fn met(&self) -> u64
+        ensures count { result ≡ counted (length self.now.heap.desk.met) }
+    {
+        self.heap.met()
+    }
+
+    /// The map of an object; none exactly where the object is slow.
+    pub fn map_of(&mut self, o: u32) -> Option<u32>
+        requires there { o < length self.old.kept }
+        ensures value { result ≡ map_in self.old.heap.view.trail o }
+        ensures slow { (result ≡ None) ↔ IsSome (kept_of self.old.kept o) }
+        ensures same { self.new ≡ record self.old { heap = record self.old.heap { desk = self.new.heap.desk } } }
+        ensures goes { Goes self.old.heap.desk self.new.heap.desk }
+        ensures went { P.went self.old.heap.pace self.old.heap.desk.trail self.new.heap.desk.trail self.new.heap.pace }
+    {
+        self.heap.object_map(o)
+    }
+}

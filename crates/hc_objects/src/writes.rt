@@ -1,0 +1,72 @@
+//! Changes of one object that is fast.
+ghost use Rattle.std.specs.Prelude.{◌≡◌, ◌<◌, ◌↔◌, true, false, IsTrue, None, Some, length};
+ghost use Rattle.hc_layout.specs.declared.capacity.TheConstants.{MAX_FAST};
+ghost use Rattle.hc_value.specs.Prop.{kind_of};
+ghost use Rattle.hc_heap.specs.Readings.{root_in};
+ghost use Rattle.hc_table.specs.Attributes.{IsProper};
+ghost use Rattle.hc_table.specs.Changes.{Added, Wrote, kind_at};
+ghost use Rattle.hc_table.specs.World.{object, props_at, place_of};
+ghost use Rattle.hc_objects.specs.Filling.{HasRoomFor};
+ghost use Rattle.hc_objects.specs.Meaning.{kept_of};
+ghost use Rattle.hc_objects.specs.Words.{IsHeldInRange};
+ghost use Rattle.hc_objects.specs.Came.{Steps, IsStill, world_of};
+
+use crate::fast::map_of;
+use crate::growing::grow_object;
+use crate::held::held_word;
+use crate::objects::Objects;
+use crate::slots::put_slot;
+use hc_heap::{Pace, details_rise, gates_are_open, unused_says_nothing};
+use hc_table::changes_keep;
+use hc_tree::{maps_are_kept, trees_stay};
+use hc_value::{Held, Prop};
+
+impl<P: Pace> Objects<P> {
+    // Has the property of a fast object at a place hold something else of its kind.
+    pub(crate) fn write_fast(&mut self, o: u32, i: u32, held: Held)
+        requires object { o < length (world_of self.old) }
+        requires fast { kept_of self.old.kept o ≡ None }
+        requires kind { kind_at (props_at (world_of self.old) o) i ≡ Some (kind_of held) }
+        requires range { IsHeldInRange held }
+        ensures steps { Steps P.went self.old (Wrote o i held) self.new }
+        ensures kept { self.new.kept ≡ self.old.kept }
+        ensures null { self.new.of_null ≡ self.old.of_null }
+        ensures used { self.new.heap.view.used ≡ self.old.heap.view.used }
+    {
+        maps_are_kept();
+        details_rise();
+        trees_stay();
+        unused_says_nothing();
+        gates_are_open();
+        changes_keep();
+        let word = held_word(held);
+        put_slot(&mut self.heap, o, i, word);
+    }
+
+    // Gives a fast object that has few properties, and isn't a prototype, a new last one. The answer is whether there
+    // was room; where there was none, nothing is stored.
+    pub(crate) fn add_fast(&mut self, o: u32, p: Prop) -> bool
+        requires object { o < length (world_of self.old) }
+        requires fast { kept_of self.old.kept o ≡ None }
+        requires absent { place_of (props_at (world_of self.old) o) p.name ≡ None }
+        requires few { length (props_at (world_of self.old) o) < MAX_FAST }
+        requires extensible { (object (world_of self.old) o).extensible ≡ true }
+        requires proper { IsProper p }
+        requires range { IsHeldInRange p.held }
+        requires shared { (root_in self.old.heap.view.trail o).is_proto ≡ false }
+        ensures room { IsTrue result ↔ HasRoomFor self.old.heap.view o p }
+        ensures added { IsTrue result → Steps P.went self.old (Added o p) self.new }
+        ensures still { result ≡ false → IsStill self.old self.new }
+        ensures kept { self.new.kept ≡ self.old.kept }
+        ensures null { self.new.of_null ≡ self.old.of_null }
+    {
+        maps_are_kept();
+        details_rise();
+        trees_stay();
+        unused_says_nothing();
+        changes_keep();
+        let map = map_of(&mut self.heap, o);
+        let gate = self.heap.gate(map).unwrap();
+        grow_object(&mut self.heap, o, map, gate.entries, p)
+    }
+}
