@@ -42,7 +42,7 @@ place-first : (b : Bool) (rest : Option ℕ) → cond b (Some 0) (option_map suc
 place-first true rest e is = let n : ⊥ = cc in n
 place-first false rest e is = let n : ⊥ = cc in n
 
-place-absent : (f : ℕ → Prop) (n k name : ℕ) → k < n → place_of (listed f n) name ≡ None → (f k).name ≢ name
+pub place-absent : (f : ℕ → Prop) (n k name : ℕ) → k < n → place_of (listed f n) name ≡ None → (f k).name ≢ name
 place-absent f zero k name lt e = absurd (omega arith)
 place-absent f (suc n) zero name lt e = λ is. place-first (eqb (f 0).name name) (place_of (listed (λ i. f (suc i)) n) name) e (eq-eqb (f 0).name name is)
 place-absent f (suc n) (suc k) name lt e = place-absent (λ i. f (suc i)) n k name (omega arith) (place-rest (eqb (f 0).name name) (place_of (listed (λ i. f (suc i)) n) name) e)
@@ -56,7 +56,7 @@ pub record IsReady (v : View) (o m n name : ℕ) : Type 0 where
   pub handed : o < v.used.objects
 
 module _ (v : View) (kept : List (Option Dictionary)) (of_null : Option ℕ) (h : IsObjects v kept of_null) (o : ℕ) (there : o < length kept) (fast : kept_of kept o ≡ None) where
-  map-is : (m : ℕ) → map_in v.trail o ≡ Some m → (has-map v kept of_null h o there fast).map ≡ m
+  pub map-is : (m : ℕ) → map_in v.trail o ≡ Some m → (has-map v kept of_null h o there fast).map ≡ m
   map-is m is = some-is (has-map v kept of_null h o there fast).map m (sym (has-map v kept of_null h o there fast).is_map ∙ is)
 
   gate-is : (g : GateWord) (m : ℕ) → map_in v.trail o ≡ Some m → gate_in v.trail m ≡ Some g → (has-map v kept of_null h o there fast).gate ≡ g

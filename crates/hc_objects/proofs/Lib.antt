@@ -26,3 +26,6 @@ pub mod Fitting
 pub mod Joining
 pub mod Childed
 pub mod Adding
+pub mod Creating
+pub mod Slowed
+pub mod Left

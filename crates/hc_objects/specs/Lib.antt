@@ -4,4 +4,5 @@ pub mod Meaning
 pub mod State
 pub mod Changes
 pub mod Filling
+pub mod Creating
 pub mod Came

@@ -1,5 +1,5 @@
 -- What the words, and what the main thread keeps of slow objects, say of the objects.
-use Rattle.std.specs.Prelude.{ℕ, Bool, true, not, Option, Some, None, List, length, slice_index_or}
+use Rattle.std.specs.Prelude.{ℕ, Bool, true, not, Option, Some, None, option_map, List, length, slice_index_or}
 use Rattle.hc_layout.specs.declared.words.GateWord.{GateWord}
 use Rattle.hc_value.specs.declared.value.Value.{Value}
 use Rattle.hc_value.specs.declared.value.Value.TheVariants.{Undefined}
@@ -12,6 +12,7 @@ use Rattle.hc_value.specs.declared.prop.Held.TheVariants.{Datum, Pair}
 use Rattle.hc_value.specs.declared.prop.Kind.{Kind}
 use Rattle.hc_value.specs.declared.prop.Kind.TheVariants.{DataProp, AccessorProp}
 use Rattle.hc_value.specs.declared.prop.Prop.{Prop}
+use Rattle.hc_value.specs.declared.reply.Cause.{Cause}
 use Rattle.hc_value.specs.Word.{unwide_of, untagged_of, unpair_of, integer_of}
 use Rattle.hc_heap.specs.Writes.{Trail}
 use Rattle.hc_heap.specs.Readings.{gate_in, prototype_in, map_in, store_in}
@@ -88,6 +89,10 @@ object_shown t o None None = new_object None
 -- what is kept of an object: its dictionary where it is slow, and none where it is fast
 abbrev pub kept_of : List (Option Dictionary) → ℕ → Option Dictionary
 kept_of kept o = slice_index_or kept o None
+
+-- why an object is slow, where it is
+abbrev pub cause_in : List (Option Dictionary) → ℕ → Option Cause
+cause_in kept o = option_map (λ d. d.cause) (kept_of kept o)
 
 -- an object
 abbrev pub object_at : Trail → List (Option Dictionary) → ℕ → Object

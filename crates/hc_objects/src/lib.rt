@@ -1,14 +1,17 @@
 //! Fast and slow objects over the tree of maps.
 #![tactic(auto)]
 
+mod creates;
 mod dictionary;
 mod entries;
 mod fast;
 mod growing;
 mod held;
+mod leaving;
 mod objects;
 mod reads;
 mod slots;
+mod slow;
 mod stores;
 mod writes;
 

@@ -19,8 +19,8 @@ use std::marker::Model;
 pub struct Objects<P: Pace> {
     pub(crate) heap: Heap<P>,
     pub(crate) kept: Vec<Option<Dictionary>>,
-    of_null: Option<u32>,
-    alloc: Global,
+    pub(crate) of_null: Option<u32>,
+    pub(crate) alloc: Global,
 }
 
 impl<P: Pace> Model for Objects<P> {

@@ -1,0 +1,108 @@
+-- A fast object that leaves its map for a dictionary, as what objects are before and after it.
+use Rattle.std.proofs.Common.{◌≡◌, ◌≢◌, ℕ, zero, suc, ◌<◌, ◌≤◌, List, [], ◌∷◌, Option, Some, None, length, set, refl, sym, ap, ◌∙◌, subst, arith}
+use Rattle.std.specs.List.{AllByRecursion}
+use Rattle.hc_board.specs.Trail.{Access}
+use Rattle.hc_board.specs.States.{WriterState}
+use Rattle.hc_value.specs.declared.prop.Prop.{Prop}
+use Rattle.hc_heap.specs.Writes.{ObjectMap}
+use Rattle.hc_heap.specs.Readings.{map_in}
+use Rattle.hc_heap.specs.Kept.{DetailsRise, UnusedSaysNothing}
+use Rattle.hc_heap.specs.Frames.{extends-none}
+use Rattle.hc_heap.specs.States.{View, HeapState, IsHeap, Goes, one_load}
+use Rattle.hc_tree.specs.Growth.{marked, IsUnmoved}
+use Rattle.hc_tree.specs.Kept.{MapsAreKept, TreesStay}
+use Rattle.hc_tree.specs.Tree.{IsTree}
+use Rattle.hc_table.specs.Attributes.{IsProper}
+use Rattle.hc_table.specs.Kept.{IsKept, with_world}
+use Rattle.hc_table.specs.World.{Object, World, object, place_of, HaveDistinctNames}
+use Rattle.hc_objects.specs.Listed.{listed}
+use Rattle.hc_objects.specs.Meaning.{Dictionary, dictionary_object, kept_of, object_shown, world}
+use Rattle.hc_objects.specs.State.{HasMap, IsObjects, tables_of}
+use Rattle.hc_objects.specs.Changes.{Stepped}
+use Rattle.hc_objects.proofs.Adding.{place-absent, map-is}
+use Rattle.hc_objects.proofs.Fetching.{place-none, all-at}
+use Rattle.hc_objects.proofs.Listed.{slice_get-listed}
+use Rattle.hc_objects.proofs.Operations.{left-step}
+use Rattle.hc_objects.proofs.Owning.{open-used}
+use Rattle.hc_objects.proofs.Stepping.{stepped-world, stepped-sound}
+use Rattle.hc_objects.proofs.Worlds.{object-world, length-world}
+use Rattle.hc_objects.proofs.Writing.{has-map}
+
+-- A heap that was only read
+
+module _ {P : Type 0} where
+  pub unmoved-of : (a b : HeapState P) → b ≡ record a { desk = b.desk } → b.desk ≡ record a.desk { loads = b.desk.loads } → IsUnmoved a b
+  unmoved-of a b new is = new ∙ ap (λ (d : WriterState). let s : HeapState P = record a { desk = d } in s) is
+
+  pub unmoved-one : (a b : HeapState P) → b ≡ record a { desk = one_load a.desk } → IsUnmoved a b
+  unmoved-one a b is = is ∙ ap (λ (n : ℕ). let s : HeapState P = record a { desk = record a.desk { loads = n } } in s) (sym (ap (λ (s : HeapState P). s.desk.loads) is))
+
+  pub unmoved-on : (a b c : HeapState P) → IsUnmoved a b → IsUnmoved b c → IsUnmoved a c
+  unmoved-on a b c x y = y ∙ ap (λ (s : HeapState P). let r : HeapState P = record s { desk = record s.desk { loads = c.desk.loads } } in r) x
+
+  pub unmoved-goes : (a b : HeapState P) → IsUnmoved a b → a.desk.loads ≤ b.desk.loads → Goes a.desk b.desk
+  unmoved-goes a b is le = subst (λ (s : HeapState P). Goes a.desk s.desk) (sym is) (record { board = refl; trail = extends-none a.desk.trail; loads = le; met = extends-none a.desk.met })
+
+  pub unmoved-went : (went : P → List Access → List Access → P → Type 0) → ((p : P) (t : List Access) → went p t t p) → (a b : HeapState P) → IsUnmoved a b → went a.pace a.desk.trail b.desk.trail b.pace
+  unmoved-went went stays a b is = subst (λ (s : HeapState P). went a.pace a.desk.trail s.desk.trail s.pace) (sym is) (stays a.pace a.desk.trail)
+
+-- Names of listed properties
+
+names-differ : (f : ℕ → Prop) (n j k : ℕ) → HaveDistinctNames (listed f n) → j < k → k < n → (f j).name ≢ (f k).name
+names-differ f zero j k h jk kn = absurd (omega arith)
+names-differ f (suc n) j zero h jk kn = absurd (omega arith)
+names-differ f (suc n) zero (suc k) h jk kn = λ e. place-absent (λ i. f (suc i)) n k (f 0).name (omega arith) h.0 (sym e)
+names-differ f (suc n) (suc j) (suc k) h jk kn = names-differ (λ i. f (suc i)) n j k h.1 (omega arith) (omega arith)
+
+-- the name of a property is none of those before it
+pub name-new : (f : ℕ → Prop) (n k : ℕ) → HaveDistinctNames (listed f n) → k < n → place_of (listed f k) (f k).name ≡ None
+name-new f n k h kn = place-none f k (f k).name (λ j jk. names-differ f n j k h jk kn)
+
+pub proper-at : (f : ℕ → Prop) (n k : ℕ) → AllByRecursion IsProper (listed f n) → k < n → IsProper (f k)
+proper-at f n k all kn = all-at IsProper (listed f n) k (f k) all (slice_get-listed f n k kn)
+
+-- an object that stays the same
+set-object : (w : World) (o : ℕ) (x : Object) → o < length w → object w o ≡ x → set w o x ≡ w
+set-object [] o x lt is = refl
+set-object (y ∷ ys) zero x lt is = ap (λ (z : Object). z ∷ ys) (sym is)
+set-object (y ∷ ys) (suc o) x lt is = ap (λ (zs : World). y ∷ zs) (set-object ys o x (omega arith) is)
+
+-- what a fast object is
+pub fast-is : (old : View) (kept : List (Option Dictionary)) (of_null : Option ℕ) → IsObjects old kept of_null → (o : ℕ) → o < length kept → kept_of kept o ≡ None → object (world old.trail kept) o ≡ object_shown old.trail o None (map_in old.trail o)
+fast-is old kept of_null h o there fast = object-world old.trail kept o there ∙ ap (λ (i : Option Dictionary). object_shown old.trail o i (map_in old.trail o)) fast
+
+module _ (maps : MapsAreKept) (details : DetailsRise) (trees : TreesStay) (unused : UnusedSaysNothing) (old : View) (kept : List (Option Dictionary)) (of_null : Option ℕ) (h : IsObjects old kept of_null) (o : ℕ) (there : o < length kept) (fast : kept_of kept o ≡ None) (m : ℕ) (is_map : map_in old.trail o ≡ Some m) where
+  abbrev so : HasMap old.trail o
+  so = has-map old kept of_null h o there fast
+
+  same : so.map ≡ m
+  same = map-is old kept of_null h o there fast m is_map
+
+  -- the map is there
+  pub map-used : m < old.used.maps
+  map-used = subst (λ (x : ℕ). x < old.used.maps) same (open-used unused old h.heap so.map so.gate so.fast.is_open)
+
+  module _ (d : Dictionary) (value : dictionary_object d ≡ object_shown old.trail o None (map_in old.trail o)) (new : View) (is : new ≡ record old { trail = ObjectMap o None ∷ marked old.trail m })
+      (marked_tree : IsTree (marked old.trail m)) (marked_heap : IsHeap (record old { trail = marked old.trail m })) (heap : IsHeap new) where
+    step-by : (x : ℕ) → x ≡ m → new ≡ record old { trail = ObjectMap o None ∷ marked old.trail x }
+    step-by x e = subst (λ (y : ℕ). new ≡ record old { trail = ObjectMap o None ∷ marked old.trail y }) (sym e) is
+
+    step : Stepped old new (Some d) o (dictionary_object d)
+    step =
+        let e = step-by so.map same in
+        subst (λ (v : View). Stepped old v (Some d) o (dictionary_object d)) (sym e)
+        (left-step maps details trees unused old kept of_null h o so d (subst IsHeap e heap)
+        (subst (λ (x : ℕ). IsTree (marked old.trail x)) (sym same) marked_tree)
+        (subst (λ (x : ℕ). IsHeap (record old { trail = marked old.trail x })) (sym same) marked_heap))
+
+    still : set (world old.trail kept) o (dictionary_object d) ≡ world old.trail kept
+    still = set-object (world old.trail kept) o (dictionary_object d) (subst (λ (n : ℕ). o < n) (sym (length-world old.trail kept)) there) (fast-is old kept of_null h o there fast ∙ sym value)
+
+    -- the world stays
+    pub left-world : world new.trail (set kept o (Some d)) ≡ world old.trail kept
+    left-world = stepped-world maps details old new kept of_null h (Some d) o (dictionary_object d) there step ∙ still
+
+    -- and what holds of objects holds
+    pub left-sound : IsObjects new (set kept o (Some d)) of_null
+    left-sound = stepped-sound maps details old new kept of_null h (Some d) o (dictionary_object d) there step (ap (λ (v : View). v.used.objects) is)
+        (subst (λ (w : World). IsKept (with_world (tables_of old kept) w)) (sym still) h.sound)
