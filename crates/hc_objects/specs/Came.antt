@@ -6,6 +6,7 @@ use Rattle.hc_table.specs.World.{World}
 use Rattle.hc_table.specs.Changes.{Did, Nothing, after}
 use Rattle.hc_objects.specs.Meaning.{world}
 use Rattle.hc_objects.specs.State.{ObjectsState}
+use Rattle.hc_objects.specs.Modes.{Modes, IsWithin, ProtosAfter, need_of}
 
 -- the objects, as property tables
 abbrev pub world_of : {P : Type 0} → ObjectsState P → World
@@ -23,7 +24,14 @@ pub record Steps {P : Type 0} (goes_with : P → List Access → List Access →
   pub goes : Goes a.heap.desk b.heap.desk
   pub went : goes_with a.heap.pace a.heap.desk.trail b.heap.desk.trail b.heap.pace
 
+-- a step, with what it made of modes and prototypes, and no more items handed out than it needs
+pub record Made {P : Type 0} (goes_with : P → List Access → List Access → P → Type 0) (a : ObjectsState P) (did : Did) (b : ObjectsState P) : Type 0 where
+  pub steps : Steps goes_with a did b
+  pub modes : Modes a did b
+  pub needs : IsWithin (need_of a did) a.heap.view.used b.heap.view.used
+  pub protos : ProtosAfter a.heap.view.trail did b.heap.view.trail
+
 -- what was done
 abbrev pub Came : {P : Type 0} → (P → List Access → List Access → P → Type 0) → ObjectsState P → Did → ObjectsState P → Type 0
 Came went a Nothing b = IsStill a b
-Came went a did b = Steps went a did b
+Came went a did b = Made went a did b

@@ -5,4 +5,5 @@ pub mod State
 pub mod Changes
 pub mod Filling
 pub mod Creating
+pub mod Modes
 pub mod Came
