@@ -1,5 +1,5 @@
 -- Which objects an operation makes slow, and why; what it needs of each region; and which objects are alike.
-use Rattle.std.specs.Prelude.{◌≡◌, ◌≢◌, ◌↔◌, ℕ, zero, suc, ◌+◌, ◌≤◌, Bool, false, IsTrue, ◌<◌, ◌==◌, ◌&&◌, not, nat_lt, Option, Some, None, option_map, IfSome, if◌then◌else◌, List, length, map, slice_get, ⊤}
+use Rattle.std.specs.Prelude.{◌≡◌, ◌≢◌, ◌↔◌, ℕ, zero, suc, ◌+◌, ◌≤◌, Bool, true, false, IsTrue, ◌<◌, ◌==◌, ◌&&◌, not, nat_lt, Option, Some, None, option_map, IfSome, if◌then◌else◌, List, length, map, slice_get, ⊤}
 use Rattle.hc_layout.specs.Capacity.{cap_of}
 use Rattle.hc_layout.specs.declared.capacity.TheConstants.{MAX_FAST}
 use Rattle.hc_layout.specs.declared.shape.Shape.{Shape}
