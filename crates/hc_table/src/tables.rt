@@ -1,4 +1,4 @@
-ghost use Rattle.std.specs.Prelude.{◌≡◌, ◌↔◌, ℕ, ◌<◌, true, false, None, Some, length, slice_get, IfOk, OnOk, OnErr, IsErrOf};
+ghost use Rattle.std.specs.Prelude.{◌≡◌, ◌↔◌, ℕ, ◌<◌, ◌≤◌, true, false, None, Some, length, slice_get, IfOk, OnOk, OnErr, IsErrOf};
 ghost use Rattle.hc_table.specs.Attributes.{IsProper};
 ghost use Rattle.hc_table.specs.Changes.{Did, Nothing, Moved, Created, Added, Wrote, Reconfigured, Removed, Linked, Locked, Restricted, IsThere, name_at, kind_at, reaches, with_property, with_removed, with_proto, with_lock, with_integrity};
 ghost use Rattle.hc_table.specs.Ranges.{IsHeldInRange};
@@ -24,6 +24,7 @@ pub trait Tables {
     /// How many objects there are.
     fn count(&mut self) -> u32
         ensures count { result ≡ length (world self.old) }
+        ensures room { length (world self.old) ≤ limit self.old }
         ensures same { world self.new ≡ world self.old }
         ensures same_limit { limit self.new ≡ limit self.old }
         ensures still { came self.old Nothing self.new }
