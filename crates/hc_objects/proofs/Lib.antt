@@ -25,6 +25,7 @@ pub mod Shown
 pub mod Fitting
 pub mod Joining
 pub mod Childed
+pub mod Needing
 pub mod Adding
 pub mod Creating
 pub mod Slowed
