@@ -29,3 +29,4 @@ pub mod Adding
 pub mod Creating
 pub mod Slowed
 pub mod Left
+pub mod Composing
