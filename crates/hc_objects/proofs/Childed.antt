@@ -23,7 +23,7 @@ use Rattle.hc_tree.specs.Growth.{MakesMap, EndsWith, live_of, live_child, child_
 use Rattle.hc_objects.specs.Meaning.{slot_word}
 use Rattle.hc_objects.specs.State.{IsFast, IsIn, Owns, AreHandedOut}
 use Rattle.hc_objects.specs.Changes.{WordsStay, Changed, OpensNoRoot, IsGrown, key_of}
-use Rattle.hc_objects.specs.Filling.{IsMoved, slots_need}
+use Rattle.hc_objects.specs.Filling.{IsMoved, slots_need, with_growth, with_slots}
 use Rattle.hc_objects.proofs.Rising.{some-of, not-both}
 use Rattle.hc_objects.proofs.Sound.{some-is, is-later}
 use Rattle.hc_objects.proofs.Staying.{IsLater, later, fits-still}
@@ -154,6 +154,12 @@ module _ (maps : MapsAreKept) (details : DetailsRise) (unused : UnusedSaysNothin
 
   owns-here : (s : ℕ) → Owns w.trail o s → s < v.used.slots → Owns v.trail o s
   owns-here s owns lt = subst (λ (x : StoreWord). IsIn x s) store-same owns
+
+  pub used-on : (x : View) → x.used ≡ with_slots (store_in w.trail o) n w.used → x.used ≡ with_growth v.trail o m n (key_of p) v.used
+  used-on x e =
+      e
+      ∙ ap (λ (c : StoreWord). with_slots c n w.used) store-same
+      ∙ ap (with_slots (store_in v.trail o) n) it.used
 
   -- from the child on the object was moved
   module _ (x : View) (moved : IsMoved w x o m n p) where

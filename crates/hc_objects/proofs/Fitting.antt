@@ -19,6 +19,9 @@ use Rattle.hc_objects.proofs.Staying.{owns-index}
 lt-of : (n c : ℕ) → nat_lt n c ≡ true → n < c
 lt-of n c e = search (rules, nat_tests)
 
+ge-of : (n c : ℕ) → nat_lt n c ≡ false → c ≤ n
+ge-of n c e = search (rules, nat_tests)
+
 -- an object that has a slot left needs none, and one that is full needs a store
 pub need-full : (n c : ℕ) → c ≤ n → slots_need n c ≡ cap_of (n + 1)
 need-full n c le = by (nat_lt n c) refl
@@ -27,6 +30,13 @@ need-full n c le = by (nat_lt n c) refl
     by true e = absurd (omega (arith, lt-of n c e, le))
     by false e = refl
 
+need-none : (n c : ℕ) → n < c → slots_need n c ≡ 0
+need-none n c lt = by (nat_lt n c) refl
+  where
+    by : (b : Bool) → nat_lt n c ≡ b → cond b 0 (cap_of (n + 1)) ≡ 0
+    by true e = refl
+    by false e = absurd (omega (arith, ge-of n c e, lt))
+
 -- nothing is to do
 pub fits-already : (v : View) (o n : ℕ) → AreHandedOut v.used.slots (store_in v.trail o) → n < (store_in v.trail o).capacity → IsFitted v v o n
 fits-already v o n out room = record {
@@ -34,6 +44,7 @@ fits-already v o n out room = record {
   shape = refl;
   used = refl;
   slots = le_refl v.used.slots;
+  more = omega (arith, need-none n (store_in v.trail o).capacity room);
   store = out;
   owns = λ s owns lt. owns;
   room = room;
@@ -51,6 +62,7 @@ module _ (v w : View) (o n first x : ℕ) (fitted : IsFitted v w o n) (is : (sto
     shape = fitted.shape;
     used = fitted.used;
     slots = fitted.slots;
+    more = fitted.more;
     store = fitted.store;
     owns = fitted.owns;
     room = fitted.room;

@@ -2,6 +2,8 @@
 use Rattle.std.specs.Prelude.{◌≡◌, ℕ, ◌+◌, ◌<◌, ◌≤◌, nat_lt, false, Some, IsSomeAnd, if◌then◌else◌}
 use Rattle.hc_layout.specs.Capacity.{cap_of}
 use Rattle.hc_layout.specs.declared.shape.Region.TheVariants.{Slots}
+use Rattle.hc_layout.specs.declared.shape.Shape.{Shape}
+use Rattle.hc_layout.specs.declared.words.StoreWord.{StoreWord}
 use Rattle.hc_value.specs.Prop.{kind_of}
 use Rattle.hc_value.specs.declared.field.Rep.TheVariants.{Tagged}
 use Rattle.hc_value.specs.declared.key.Key.{Key}
@@ -13,7 +15,7 @@ use Rattle.hc_heap.specs.Kept.{Adds}
 use Rattle.hc_heap.specs.States.{View, HasRoom}
 use Rattle.hc_descs.specs.Entries.{count_of}
 use Rattle.hc_tree.specs.Growth.{child_need, live_child}
-use Rattle.hc_tree.specs.Needs.{HasSpace}
+use Rattle.hc_tree.specs.Needs.{HasSpace, with_need}
 use Rattle.hc_tree.specs.Tree.{tagged_field}
 use Rattle.hc_objects.specs.Meaning.{held_in, slot_word}
 use Rattle.hc_objects.specs.State.{Owns, AreHandedOut}
@@ -35,10 +37,19 @@ pub record IsFitted (old new : View) (o n : ℕ) : Type 0 where
   pub shape : new.shape ≡ old.shape
   pub used : new.used ≡ record old.used { slots = new.used.slots }
   pub slots : old.used.slots ≤ new.used.slots
+  pub more : new.used.slots ≡ old.used.slots + slots_need n (store_in old.trail o).capacity
   pub store : AreHandedOut new.used.slots (store_in new.trail o)
   pub owns : (s : ℕ) → Owns new.trail o s → s < old.used.slots → Owns old.trail o s
   pub room : n < (store_in new.trail o).capacity
   pub words : SlotsStay old.trail new.trail o n
+
+-- the counts after an object with n properties got slots for one more
+abbrev pub with_slots : StoreWord → ℕ → Shape → Shape
+with_slots w n used = record used { slots = used.slots + slots_need n w.capacity }
+
+-- the counts after it came besides to the child of its map, which was made where there was no live one
+abbrev pub with_growth : Trail → ℕ → ℕ → ℕ → Key → Shape → Shape
+with_growth t o m n key used = with_slots (store_in t o) n (with_need (child_need (live_child t m key) n) used)
 
 -- an object came from a map with n entries to a shared one that has one more, and its slot holds what the property does
 pub record IsMoved (old new : View) (o m n : ℕ) (p : Prop) : Type 0 where

@@ -9,9 +9,9 @@ ghost use Rattle.hc_descs.specs.Entries.{LacksName};
 ghost use Rattle.hc_tree.specs.Growth.{IsUnmoved};
 ghost use Rattle.hc_tree.specs.Tree.{IsTree, IsProperKey, gate_with, tagged_field};
 ghost use Rattle.hc_objects.specs.Changes.{IsGrown, key_of};
-ghost use Rattle.hc_objects.specs.Filling.{IsMoved, MayGrowBy, slots_need};
+ghost use Rattle.hc_objects.specs.Filling.{IsMoved, MayGrowBy, slots_need, with_growth, with_slots};
 ghost use Rattle.hc_objects.specs.State.{AreHandedOut};
-ghost use Rattle.hc_objects.specs.Words.{IsHeldInRange};
+ghost use Rattle.hc_table.specs.Ranges.{IsHeldInRange};
 
 use crate::held::held_word;
 use crate::stores::{fill_next, slots_needed};
@@ -37,6 +37,7 @@ fn move_to_child<P: Pace>(h: &mut Heap<P>, object: u32, map: u32, child: u32, n:
     requires handed { object < h.old.view.used.objects }
     requires room { HasRoom h.old.view Slots (slots_need n (store_in h.old.view.trail object).capacity) }
     ensures moved { IsMoved h.old.view h.new.view object map n p }
+    ensures used { h.new.view.used ≡ with_slots (store_in h.old.view.trail object) n h.old.view.used }
     ensures goes { Goes h.old.desk h.new.desk }
     ensures went { P.went h.old.pace h.old.desk.trail h.new.desk.trail h.new.pace }
 {
@@ -78,6 +79,7 @@ pub(crate) fn grow_object<P: Pace>(h: &mut Heap<P>, object: u32, map: u32, n: u3
     requires handed { object < h.old.view.used.objects }
     ensures room { IsTrue result ↔ MayGrowBy h.old.view object map n (key_of p) }
     ensures moved { IsTrue result → IsMoved h.old.view h.new.view object map n p }
+    ensures used { IsTrue result → h.new.view.used ≡ with_growth h.old.view.trail object map n (key_of p) h.old.view.used }
     ensures still { result ≡ false → IsUnmoved h.old h.new }
     ensures goes { Goes h.old.desk h.new.desk }
     ensures went { P.went h.old.pace h.old.desk.trail h.new.desk.trail h.new.pace }

@@ -11,7 +11,7 @@ use Rattle.hc_descs.specs.Entries.{count_of, entries_in}
 use Rattle.hc_tree.specs.Growth.{EndsWith}
 use Rattle.hc_objects.specs.Changes.{key_of}
 use Rattle.hc_objects.specs.Filling.{slots_need}
-use Rattle.hc_objects.proofs.Childed.{IsChilded, map-same, root-same, objects-same, open-then, unstable-then, holds-then, child-then, grown-then, out-then, room-then, moved-on}
+use Rattle.hc_objects.proofs.Childed.{IsChilded, map-same, root-same, objects-same, open-then, unstable-then, holds-then, child-then, grown-then, out-then, room-then, moved-on, used-on}
 use Rattle.hc_objects.proofs.growing.grow_object.Goals as goal
 
 pub move_to_child-requires : goal.move_to_child-requires
@@ -88,3 +88,31 @@ returns-clause-moved g c =
       heap = c.in-Ok.ensures.heap;
     }))) in
     λ yes. moved-on c.maps_are_kept.ensures.law c.details_rise.ensures.law c.unused_says_nothing.ensures.law c.linked_are_unstable.ensures.law v w o m n child p c.stands.ensures.heap it c.requires.open c.move_to_child.new.h.view c.move_to_child.ensures.moved
+
+pub returns-clause-used : goal.returns-clause-used
+returns-clause-used g c =
+    let v = c.args.h.now.view in
+    let w = c.child_or_make.new.h.view in
+    let o = c.args.object in
+    let m = c.args.map in
+    let n = c.args.n in
+    let p = c.args.p in
+    let child = c.in-Ok.child in
+    let read : c.store-store.new.self.view ≡ v = ap (λ (s : HeapState g.row.P.Denot). s.view) c.store-store.ensures.new in
+    let key : Key = record { name = p.name; kind = c.kind.result; attrs = p.attrs } in
+    let same : key ≡ key_of p = ap (λ (k : Kind). let x : Key = record { name = p.name; kind = k; attrs = p.attrs } in x) c.kind.ensures in
+    let count : count_of v.trail m ≡ n = ap entries_in c.requires.open in
+    let it : IsChilded v w m n child (key_of p) = subst (λ (k : Key). IsChilded v w m n child k) same
+    (subst (λ (x : ℕ). IsChilded v w m x child key) count
+    (subst (λ (x : View). IsChilded x w m (count_of x.trail m) child key) read (record {
+      writes = c.in-Ok.ensures.writes;
+      shape = c.in-Ok.ensures.shape;
+      used = c.in-Ok.ensures.used;
+      number = c.in-Ok.ensures.number;
+      live = c.in-Ok.ensures.live;
+      child = c.in-Ok.ensures.child;
+      ends = subst (λ (d : Detail). EndsWith w.trail child (count_of c.store-store.new.self.view.trail m) key d) c.tagged_detail.ensures c.in-Ok.ensures.ends;
+      tree = c.in-Ok.ensures.tree;
+      heap = c.in-Ok.ensures.heap;
+    }))) in
+    λ yes. used-on c.maps_are_kept.ensures.law c.details_rise.ensures.law c.unused_says_nothing.ensures.law c.linked_are_unstable.ensures.law v w o m n child p c.stands.ensures.heap it c.requires.open c.move_to_child.new.h.view c.move_to_child.ensures.used

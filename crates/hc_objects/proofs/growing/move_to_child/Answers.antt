@@ -1,4 +1,4 @@
-use Rattle.std.proofs.Common.{◌<◌, ℕ, Option, sym, subst, IfSome}
+use Rattle.std.proofs.Common.{◌<◌, ℕ, Option, ap, ◌∙◌, sym, subst, IfSome}
 use Rattle.std.specs.Prelude.{IsTrue}
 use Rattle.hc_layout.specs.declared.shape.Shape.{Shape}
 use Rattle.hc_heap.specs.Readings.{bits_in}
@@ -21,3 +21,8 @@ returns-clause-moved g c =
     let is = c.set_object_map.ensures.view in
     subst (λ (w : View). IsMoved c.args.h.now.view w c.args.object c.args.map c.args.n c.args.p) (sym is)
     (move-made c.maps_are_kept.ensures.law c.details_rise.ensures.law c.trees_stay.ensures.law c.unused_says_nothing.ensures.law c.args.h.now.view c.fill_next.new.h.view c.args.object c.args.map c.args.child c.args.n c.held_word.result c.args.p c.stands.ensures.heap c.fill_next.ensures.heap c.fill_next.ensures.fitted c.requires.has c.requires.unstable c.requires.open c.requires.holds c.requires.shared c.requires.child c.requires.grown c.fill_next.ensures.last c.held_word.ensures.form c.held_word.ensures.holds (subst IsHeap is c.set_object_map.ensures.heap) c.requires.tree)
+
+pub returns-clause-used : goal.returns-clause-used
+returns-clause-used g c =
+    let fitted = c.fill_next.ensures.fitted in
+    ap (λ (w : View). w.used) c.set_object_map.ensures.view ∙ fitted.used ∙ ap (λ (k : ℕ). let s : Shape = record c.args.h.now.view.used { slots = k } in s) fitted.more

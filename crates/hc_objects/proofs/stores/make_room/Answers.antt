@@ -5,6 +5,7 @@ use Rattle.hc_layout.specs.declared.words.StoreWord.{StoreWord}
 use Rattle.hc_heap.specs.Readings.{store_in, map_in, bits_in}
 use Rattle.hc_heap.specs.States.{View, HeapState}
 use Rattle.hc_objects.specs.State.{AreHandedOut}
+use Rattle.hc_objects.specs.Changes.{HasMoved}
 use Rattle.hc_objects.specs.Filling.{IsFitted}
 use Rattle.hc_objects.proofs.Fitting.{fits-already, need-full}
 use Rattle.hc_objects.proofs.Moved.{moved-fits}
@@ -39,5 +40,10 @@ move_store-requires g c =
 
 pub returns-clause-fitted : goal.returns-clause-fitted
 returns-clause-fitted g c =
-    let read : c.store-store.new.self.view ≡ c.args.h.now.view = ap (λ (s : HeapState g.row.P.Denot). s.view) c.store-store.ensures.new in
-    subst (λ (w : View). IsFitted w c.move_store.new.h.view c.args.object c.args.n) read (moved-fits c.store-store.new.self.view c.move_store.new.h.view c.args.object c.args.n (cap_of (c.args.n + 1)) c.move_store.ensures.moved)
+    let v = c.args.h.now.view in
+    let o = c.args.object in
+    let n = c.args.n in
+    let read : c.store-store.new.self.view ≡ v = ap (λ (s : HeapState g.row.P.Denot). s.view) c.store-store.ensures.new in
+    let least : (store_in v.trail o).capacity ≤ n = subst (λ (w : StoreWord). w.capacity ≤ n) c.store-store.ensures.value c.if-n-store.false in
+    let moved : HasMoved v c.move_store.new.h.view o n (cap_of (n + 1)) = subst (λ (w : View). HasMoved w c.move_store.new.h.view o n (cap_of (n + 1))) read c.move_store.ensures.moved in
+    moved-fits v c.move_store.new.h.view o n (cap_of (n + 1)) (sym (need-full n (store_in v.trail o).capacity least)) moved
