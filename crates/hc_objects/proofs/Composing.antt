@@ -1,0 +1,144 @@
+-- How what was done to objects follows on what was done before.
+use Rattle.std.proofs.Common.{◌≡◌, ◌≢◌, ℕ, List, Option, Some, None, refl, sym, ap, ◌∙◌, subst, arith}
+use Rattle.std.specs.Prelude.{IfSome, option_map}
+use Rattle.hc_board.specs.Trail.{Access}
+use Rattle.hc_layout.specs.declared.shape.Shape.{Shape}
+use Rattle.hc_value.specs.declared.reply.Cause.{Cause}
+use Rattle.hc_heap.specs.Writes.{Trail}
+use Rattle.hc_heap.specs.Readings.{root_in}
+use Rattle.hc_heap.specs.Frames.{goes-on, extends-none}
+use Rattle.hc_heap.specs.States.{Goes}
+use Rattle.hc_tree.specs.declared.need.Need.{Need}
+use Rattle.hc_tree.specs.Needs.{no_need}
+use Rattle.hc_table.specs.Changes.{Did, Moved, after}
+use Rattle.hc_table.specs.World.{World}
+use Rattle.hc_objects.specs.Changes.{KeptBut}
+use Rattle.hc_objects.specs.Meaning.{Dictionary, cause_in, kept_of}
+use Rattle.hc_objects.specs.Modes.{IsOne, IsWithin, Becomes, SlowOnesStay, AllStay, Names, ProtosAfter}
+use Rattle.hc_objects.specs.State.{ObjectsState}
+use Rattle.hc_objects.specs.Came.{IsStill, Steps, Made, world_of}
+use Rattle.hc_objects.proofs.Sound.{same-or}
+
+-- Steps
+
+module _ {P : Type 0} (went : P → List Access → List Access → P → Type 0) where
+  -- moves, and then something
+  pub steps-on : ((a b c : P) (first second third : List Access) → went a first second b → went b second third c → went a first third c)
+      → (a b c : ObjectsState P) (did : Did) → Steps went a Moved b → Steps went b did c → Steps went a did c
+  steps-on law a b c did x y = record {
+    world = y.world ∙ ap (λ (w : World). after did w) x.world;
+    shape = y.shape ∙ x.shape;
+    goes = goes-on a.heap.desk b.heap.desk c.heap.desk x.goes y.goes;
+    went = law a.heap.pace b.heap.pace c.heap.pace a.heap.desk.trail b.heap.desk.trail c.heap.desk.trail x.went y.went;
+  }
+
+  -- nothing is a move
+  pub still-steps : ((p : P) (t : List Access) → went p t t p) → (a b : ObjectsState P) → IsStill a b → Steps went a Moved b
+  still-steps stays a b h = record {
+    world = ap (λ (s : ObjectsState P). world_of s) h.is;
+    shape = ap (λ (s : ObjectsState P). s.heap.view.shape) h.is;
+    goes = subst (λ (s : ObjectsState P). Goes a.heap.desk s.heap.desk) (sym h.is) (record { board = refl; trail = extends-none a.heap.desk.trail; loads = h.loads; met = extends-none a.heap.desk.met });
+    went = subst (λ (s : ObjectsState P). went a.heap.pace a.heap.desk.trail s.heap.desk.trail s.heap.pace) (sym h.is) (stays a.heap.pace a.heap.desk.trail);
+  }
+
+-- Modes
+
+-- moves that leave the items as they are leave each object fast, or slow for its cause
+pub slow-stay : {P : Type 0} (a b : ObjectsState P) → AllStay a b → SlowOnesStay a b
+slow-stay {P} a b same = λ p. by p (cause_in a.kept p) refl
+  where
+    by : (p : ℕ) (was : Option Cause) → cause_in a.kept p ≡ was → IfSome was (λ c. cause_in b.kept p ≡ Some c)
+    by p (Some c) e = same p ∙ e
+    by p None e = tt
+
+-- the items stay
+pub all-stay : {P : Type 0} (a b : ObjectsState P) → b.kept ≡ a.kept → AllStay a b
+all-stay {P} a b same = λ p. ap (λ (kept : List (Option Dictionary)). cause_in kept p) same
+
+-- an object that has no dictionary has no cause
+pub no-cause : (kept : List (Option Dictionary)) (o : ℕ) → kept_of kept o ≡ None → cause_in kept o ≡ None
+no-cause kept o fast = ap (λ (d : Option Dictionary). option_map (λ x. x.cause) d) fast
+
+-- the cause of another object stays
+pub cause-but : (kept then : List (Option Dictionary)) (o p : ℕ) → KeptBut o kept then → p ≢ o → cause_in then p ≡ cause_in kept p
+cause-but kept then o p but other = ap (λ (d : Option Dictionary). option_map (λ x. x.cause) d) (but.others p other)
+
+-- the items of other objects stay, and then again
+pub but-on : (o : ℕ) (a b c : List (Option Dictionary)) → KeptBut o a b → KeptBut o b c → KeptBut o a c
+but-on o a b c x y = record {
+  others = λ p other. y.others p other ∙ x.others p other;
+  there = λ p other lt. x.there p other (y.there p other lt);
+}
+
+-- a fast object became slow
+pub left-slow : {P : Type 0} (a b : ObjectsState P) (o : ℕ) → kept_of a.kept o ≡ None → KeptBut o a.kept b.kept → SlowOnesStay a b
+left-slow {P} a b o fast but = λ p. by p (cause_in a.kept p) refl
+  where
+    by : (p : ℕ) (was : Option Cause) → cause_in a.kept p ≡ was → IfSome was (λ c. cause_in b.kept p ≡ Some c)
+    by p (Some c) e = cause-but a.kept b.kept o p but (λ is. let n : None ≡ Some c = sym (no-cause a.kept o fast) ∙ ap (λ (q : ℕ). cause_in a.kept q) (sym is) ∙ e in let f : ⊥ = cc in absurd f) ∙ e
+    by p None e = tt
+
+-- a fast object became slow for the cause that was given
+pub left-one : {P : Type 0} (a b : ObjectsState P) (o : ℕ) (cause : Cause) (room : Type 0) → kept_of a.kept o ≡ None → KeptBut o a.kept b.kept → cause_in b.kept o ≡ Some cause → IsOne a o (Some cause) room b
+left-one {P} a b o cause room fast but is = record {
+  this = subst (λ (was : Option Cause). Becomes was (Some cause) room (cause_in b.kept o)) (sym (no-cause a.kept o fast)) is;
+  others = λ p other. cause-but a.kept b.kept o p but other;
+}
+
+-- a slow object stays slow for its cause, whatever is given
+pub slow-one : {P : Type 0} (a b : ObjectsState P) (o : ℕ) (d : Dictionary) (given : Option Cause) (room : Type 0) → kept_of a.kept o ≡ Some d → KeptBut o a.kept b.kept → cause_in b.kept o ≡ cause_in a.kept o → IsOne a o given room b
+slow-one {P} a b o d given room slow but same =
+    let was : cause_in a.kept o ≡ Some d.cause = ap (λ (x : Option Dictionary). option_map (λ y. y.cause) x) slow in
+    record {
+      this = subst (λ (x : Option Cause). Becomes x given room (cause_in b.kept o)) (sym was) (same ∙ was);
+      others = λ p other. cause-but a.kept b.kept o p but other;
+    }
+
+-- each object stays fast, or slow for its cause, where one object's cause does and the others' items do
+pub one-stays : {P : Type 0} (a b : ObjectsState P) (o : ℕ) → KeptBut o a.kept b.kept → cause_in b.kept o ≡ cause_in a.kept o → AllStay a b
+one-stays {P} a b o but same = λ p. same-or p o (cause_in b.kept p ≡ cause_in a.kept p)
+    (λ is. ap (λ (q : ℕ). cause_in b.kept q) is ∙ same ∙ ap (λ (q : ℕ). cause_in a.kept q) (sym is))
+    (λ other. cause-but a.kept b.kept o p but other)
+
+-- Needs
+
+-- nothing was handed out
+pub within-same : (need : Need) (a b : Shape) → b ≡ a → IsWithin need a b
+within-same need a b same = subst (λ (s : Shape). IsWithin need a s) (sym same) (record {
+  maps = omega arith;
+  entries = omega arith;
+  fields = omega arith;
+  links = omega arith;
+  slots = omega arith;
+})
+
+-- nothing was handed out, and then no more than is needed
+pub within-on : (need : Need) (a b c : Shape) → b ≡ a → IsWithin need b c → IsWithin need a c
+within-on need a b c same h = subst (λ (s : Shape). IsWithin need s c) same h
+
+-- Prototypes
+
+-- an operation that names no object leaves which ones are prototypes
+pub protos-same : (old new : Trail) (did : Did) → ((p : ℕ) → Names did p → ⊥) → ((p : ℕ) → (root_in new p).is_proto ≡ (root_in old p).is_proto) → ProtosAfter old did new
+protos-same old new did none same = record {
+  named = λ p names. absurd (none p names);
+  others = λ p other. same p;
+}
+
+-- the prototypes stay, and then an operation names some
+pub protos-on : (a b c : Trail) (did : Did) → ((p : ℕ) → (root_in b p).is_proto ≡ (root_in a p).is_proto) → ProtosAfter b did c → ProtosAfter a did c
+protos-on a b c did same h = record {
+  named = h.named;
+  others = λ p other. h.others p other ∙ same p;
+}
+
+-- Nothing
+
+-- nothing is a move that changes no mode, takes nothing, and makes no prototype
+pub still-moved : {P : Type 0} (went : P → List Access → List Access → P → Type 0) → ((p : P) (t : List Access) → went p t t p) → (a b : ObjectsState P) → IsStill a b → Made went a Moved b
+still-moved {P} went stays a b h = record {
+  steps = still-steps went stays a b h;
+  modes = slow-stay a b (all-stay a b (ap (λ (s : ObjectsState P). s.kept) h.is));
+  needs = within-same no_need a.heap.view.used b.heap.view.used (ap (λ (s : ObjectsState P). s.heap.view.used) h.is);
+  protos = protos-same a.heap.view.trail b.heap.view.trail Moved (λ p names. names) (λ p. ap (λ (s : ObjectsState P). (root_in s.heap.view.trail p).is_proto) h.is);
+}
