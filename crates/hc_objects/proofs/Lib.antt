@@ -31,4 +31,3 @@ pub mod Creating
 pub mod Slowed
 pub mod Left
 pub mod Composing
-pub mod Still

@@ -6,3 +6,4 @@ pub mod Filling
 pub mod Creating
 pub mod Modes
 pub mod Came
+pub mod Laws

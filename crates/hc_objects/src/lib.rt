@@ -10,6 +10,7 @@ mod held;
 mod leaving;
 mod objects;
 mod reads;
+mod properties;
 mod slots;
 mod slow;
 mod stores;

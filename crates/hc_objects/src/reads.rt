@@ -22,7 +22,7 @@ impl<P: Pace> Objects<P> {
     }
 
     // The dictionary of an object, where it is slow.
-    fn slow(&self, o: u32) -> Option<&Dictionary>
+    pub(crate) fn slow(&self, o: u32) -> Option<&Dictionary>
         requires { o < length (world_of self.now) }
         ensures { option_copied result ≡ kept_of self.now.kept o }
     {

@@ -1,4 +1,4 @@
--- Nothing, before and after what was done.
+-- The laws of what was done: nothing before it and after it changes nothing.
 use Rattle.std.proofs.Common.{◌≡◌, ℕ, ◌+◌, ◌≤◌, List, Option, refl, sym, ap, ◌∙◌, subst, arith}
 use Rattle.hc_board.specs.Trail.{Access}
 use Rattle.hc_heap.specs.States.{Goes, HeapState}
