@@ -3,11 +3,11 @@ use Rattle.std.proofs.Common.{◌≡◌, ◌≢◌, ℕ, ◌+◌, ◌<◌, ◌�
 use Rattle.hc_layout.specs.declared.words.GateWord.{GateWord}
 use Rattle.hc_layout.specs.declared.words.StoreWord.{StoreWord}
 use Rattle.hc_heap.specs.Writes.{Trail}
-use Rattle.hc_heap.specs.Readings.{gate_in, parent_in, prototype_in, map_in, store_in}
+use Rattle.hc_heap.specs.Readings.{gate_in, parent_in, prototype_in, map_in, root_in, store_in}
 use Rattle.hc_layout.specs.declared.shape.Shape.{Shape}
 use Rattle.hc_heap.specs.Lawful.{Lawful}
 use Rattle.hc_heap.specs.Kept.{Adds, DetailsRise}
-use Rattle.hc_heap.specs.Frames.{goes-on-of}
+use Rattle.hc_heap.specs.Frames.{same-after, goes-on-of}
 use Rattle.hc_heap.specs.States.{View, IsHeap}
 use Rattle.hc_tree.specs.Tree.{IsRoot, gate_with}
 use Rattle.hc_tree.specs.Growth.{root_of}
@@ -19,7 +19,7 @@ use Rattle.hc_objects.specs.State.{IsKeptSo, IsIn, Owns, AreHandedOut, AreRoots,
 use Rattle.hc_objects.specs.Changes.{Touches, Changed, WordsStay, KeptBut, IsWell, OpensNoRoot}
 use Rattle.hc_objects.proofs.Staying.{IsLater, later, object-stays, kept-still, proto-stays}
 use Rattle.hc_objects.proofs.Rising.{some-of}
-use Rattle.hc_objects.proofs.Sparing.{words-stay, live-stays, owned-used, named-stays}
+use Rattle.hc_objects.proofs.Sparing.{words-stay, live-stays, owned-used, named-stays, root-by}
 
 -- a number is this one or another
 pub same-or : (p o : ℕ) (C : Type 0) → (p ≡ o → C) → (p ≢ o → C) → C
@@ -28,6 +28,12 @@ same-or p o C same other = by (eqb p o) refl
     by : (b : Bool) → eqb p o ≡ b → C
     by true e = same (eqb-true p o e)
     by false e = other (λ is. true≢false (sym (eq-eqb p o is) ∙ e))
+
+-- after an operation on an object after which it is a prototype exactly where it was, all others are too
+pub protos-stay : (old : View) (new : Trail) (o : ℕ) → Adds (Touches old o) old.trail new → (root_in new o).is_proto ≡ (root_in old.trail o).is_proto → (p : ℕ) → (root_in new p).is_proto ≡ (root_in old.trail p).is_proto
+protos-stay old new o adds same p = same-or p o ((root_in new p).is_proto ≡ (root_in old.trail p).is_proto)
+    (λ is. subst (λ (q : ℕ). (root_in new q).is_proto ≡ (root_in old.trail q).is_proto) (sym is) same)
+    (λ other. same-after (λ (t : Trail). (root_in t p).is_proto) (root-by old o p other) adds)
 
 pub some-is : {T : Type 0} (a b : T) → Some a ≡ Some b → a ≡ b
 some-is a b e = cc

@@ -38,7 +38,7 @@ module _ (old : View) (o p : ℕ) (other : p ≢ o) where
   slot-by s used free t (Slot i v) e = cond-other i s v (slot_in t s) (λ is. free (subst (λ (x : ℕ). Owns old.trail o x) is (e (subst (λ (x : ℕ). x < old.used.slots) (sym is) used))))
   slot-by s used free t _ e = refl
 
-  root-by : (t : Trail) (w : Write) → Touches old o t w → (root_in (w ∷ t) p).is_proto ≡ (root_in t p).is_proto
+  pub root-by : (t : Trail) (w : Write) → Touches old o t w → (root_in (w ∷ t) p).is_proto ≡ (root_in t p).is_proto
   root-by t (Root i r) e = by (eqb i p) refl
     where
       by : (c : Bool) → eqb i p ≡ c → (cond c r (root_in t p)).is_proto ≡ (root_in t p).is_proto

@@ -15,6 +15,7 @@ use Rattle.hc_tree.specs.Tree.{tagged_field}
 use Rattle.hc_tree.specs.Kept.{MapsAreKept, TreesStay}
 use Rattle.hc_tree.specs.Copying.{detail_of, detail_at}
 use Rattle.hc_table.specs.Changes.{Wrote, kind_at}
+use Rattle.hc_table.specs.Ranges.{IsHeldInRange}
 use Rattle.hc_table.specs.Kept.{IsKept, ChangesKeep, with_world}
 use Rattle.hc_table.specs.World.{Object, World, object, props_at, with_list, held_at, with_written}
 use Rattle.hc_objects.specs.Meaning.{Dictionary, held_in, kept_of, fast_object, fast_props, world}
@@ -108,11 +109,11 @@ module _ (laws : Laws) (old : View) (kept : List (Option Dictionary)) (of_null :
           ∙ ap (λ (y : Object). set (world old.trail kept) o (with_list y (held_at y.props i held))) (sym is_so)
 
       -- and what holds of objects holds
-      pub write-sound : (new : View) → new.used.objects ≡ old.used.objects → IsSomeAnd (store_in old.trail o).first (λ first. new ≡ with_write old (Slot (first + i) word)) → IsHeap new → IsObjects new kept of_null
-      write-sound new same e heap =
+      pub write-sound : IsHeldInRange held → (new : View) → new.used.objects ≡ old.used.objects → IsSomeAnd (store_in old.trail o).first (λ first. new ≡ with_write old (Slot (first + i) word)) → IsHeap new → IsObjects new kept of_null
+      write-sound range new same e heap =
           let x : Object = with_list (fast_object old.trail o so.map) (held_at (fast_props old.trail o so.map) i held) in
           subst (λ (k : List (Option Dictionary)). IsObjects new k of_null) (set-same kept o None there fast)
           (stepped-sound laws.maps laws.details old new kept of_null h None o x there (write-steps new e heap) same
           (subst (λ (w : World). IsKept (with_world (tables_of old kept) w))
           (ap (λ (y : Object). set (world old.trail kept) o (with_list y (held_at y.props i held))) is_so)
-          (laws.changes (tables_of old kept) (Wrote o i held) h.sound kind)))
+          (laws.changes (tables_of old kept) (Wrote o i held) h.sound (kind, range))))

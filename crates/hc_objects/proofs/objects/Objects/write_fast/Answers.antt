@@ -41,7 +41,7 @@ invariant_of-self g c =
     let fast : kept_of kept c.args.o ≡ None = subst (λ (s : ObjectsState g.row.P.Denot). kept_of s.kept c.args.o ≡ None) (sym c.self.view_is) c.requires.fast in
     let kind : kind_at (props_at (world old.trail kept) c.args.o) c.args.i ≡ Some (kind_of c.args.held) =
     subst (λ (s : ObjectsState g.row.P.Denot). kind_at (props_at (world s.heap.view.trail s.kept) c.args.o) c.args.i ≡ Some (kind_of c.args.held)) (sym c.self.view_is) c.requires.kind in
-    write-sound laws old kept c.self.inside.of_null c.self.invariant c.args.o there fast c.args.i c.args.held kind c.held_word-word.result c.held_word-word.ensures.form c.held_word-word.ensures.holds c.put_slot.new.h.view
+    write-sound laws old kept c.self.inside.of_null c.self.invariant c.args.o there fast c.args.i c.args.held kind c.held_word-word.result c.held_word-word.ensures.form c.held_word-word.ensures.holds c.requires.range c.put_slot.new.h.view
     (used-same old c.put_slot.new.h.view c.args.i c.held_word-word.result (store_in old.trail c.args.o).first c.put_slot.ensures.view) c.put_slot.ensures.view c.put_slot.ensures.heap
 
 pub returns-clause-steps : goal.returns-clause-steps

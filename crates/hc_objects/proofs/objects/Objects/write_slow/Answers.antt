@@ -33,7 +33,7 @@ invariant_of-self g c =
     let is : kept_of kept o ≡ Some d = item-is kept o c.index_mut.result.now c.as_mut.result c.unwrap-slow.result there c.index_mut.ensures.value c.as_mut.ensures.value c.unwrap-slow.ensures in
     let kind : kind_at (props_at (world v.trail kept) o) c.args.i ≡ Some (kind_of c.args.held) = subst (λ (s : ObjectsState g.row.P.Denot). kind_at (props_at (world_of s) c.args.o) c.args.i ≡ Some (kind_of c.args.held)) (sym c.self.view_is) c.requires.kind in
     slow-sound v kept null c.self.invariant o there d is c.maps_are_kept.ensures.law c.details_rise.ensures.law c.changes_keep.ensures.law c.write.new.self (Wrote o c.args.i c.args.held)
-    (slow-change v kept null c.self.invariant o there d is c.write.new.self (λ (x : Object). with_list x (held_at x.props c.args.i c.args.held)) (ap (λ (y : Dictionary). dictionary_object y) (sym c.write.ensures.written))) kind
+    (slow-change v kept null c.self.invariant o there d is c.write.new.self (λ (x : Object). with_list x (held_at x.props c.args.i c.args.held)) (ap (λ (y : Dictionary). dictionary_object y) (sym c.write.ensures.written))) (kind, c.requires.range)
 
 pub returns-clause-steps : goal.returns-clause-steps
 returns-clause-steps g c =
