@@ -1,6 +1,6 @@
 -- A fast object that gets one property more: what its growth asks, and what becomes of the objects.
 use Rattle.std.proofs.Common.{◌≡◌, ◌≢◌, ℕ, zero, suc, ◌<◌, Bool, true, false, cond, eqb, eq-eqb, List, [], ◌∷◌, ◌++◌, Option, Some, None, length, set, refl, sym, ap, ◌∙◌, subst, arith}
-use Rattle.std.specs.Prelude.{IsSomeAnd, IsTrue, option_map}
+use Rattle.std.specs.Prelude.{IsSomeAnd, IsTrue, ◌↔◌, option_map}
 use Rattle.hc_layout.specs.declared.capacity.TheConstants.{MAX_FAST}
 use Rattle.hc_layout.specs.declared.words.GateWord.{GateWord}
 use Rattle.hc_value.specs.declared.field.Detail.{Detail}
@@ -13,6 +13,7 @@ use Rattle.hc_heap.specs.States.{View}
 use Rattle.hc_descs.specs.Entries.{key_at, field_at, LacksName}
 use Rattle.hc_tree.specs.Tree.{gate_with, tagged_field}
 use Rattle.hc_tree.specs.Kept.{MapsAreKept, TreesStay}
+use Rattle.hc_tree.specs.Needs.{HasSpace}
 use Rattle.hc_tree.specs.Copying.{detail_of, detail_at}
 use Rattle.hc_table.specs.Attributes.{IsProper}
 use Rattle.hc_table.specs.World.{Object, object, props_at, place_of, with_list, with_added}
@@ -23,11 +24,13 @@ use Rattle.hc_objects.specs.Meaning.{Dictionary, kept_of, prop_in, prop_of, slot
 use Rattle.hc_objects.specs.Came.{world_of}
 use Rattle.hc_objects.specs.State.{ObjectsState, IsObjects, tables_of}
 use Rattle.hc_objects.specs.Changes.{Stepped, key_of}
-use Rattle.hc_objects.specs.Filling.{IsMoved}
+use Rattle.hc_objects.specs.Filling.{IsMoved, MayGrowBy, with_growth}
+use Rattle.hc_objects.specs.Modes.{IsWithin, add_need}
 use Rattle.hc_objects.proofs.Listed.{length-listed}
 use Rattle.hc_objects.proofs.Operations.{grown-step}
 use Rattle.hc_objects.proofs.Shown.{within}
-use Rattle.hc_objects.proofs.Sound.{some-is}
+use Rattle.hc_objects.proofs.Needing.{space-of, may-of, within-of, within-same}
+use Rattle.hc_objects.proofs.Sound.{some-is, protos-stay}
 use Rattle.hc_objects.proofs.Stepping.{stepped-world, stepped-sound, set-same}
 use Rattle.hc_objects.proofs.Writing.{has-map, is-fast, props-are, count-is}
 use Rattle.hc_objects.proofs.Rising.{some-and}
@@ -183,3 +186,24 @@ module _ {P : Type 0} (a b : ObjectsState P) (o : ℕ) (p : Prop) (same : a ≡ 
 
     pub call-world : IsMoved y x o m g.entries p → world x.trail a.kept ≡ with_added (world a.heap.view.trail a.kept) o p
     call-world moved = add-world a.heap.view a.kept a.of_null h o there fast-there maps details trees unused keeps x p shared-there (moved-here moved)
+
+    -- there was room exactly where the need says so, no more was handed out, and no object became a prototype
+    module _ (done : Bool) where
+      pub call-room : (IsTrue done ↔ MayGrowBy y o m g.entries (key_of p)) → IsTrue done ↔ HasSpace b.heap.view (add_need b.heap.view.trail o p)
+      call-room room = subst (λ (s : ObjectsState P). IsTrue done ↔ HasSpace s.heap.view (add_need s.heap.view.trail o p)) same
+          ( λ yes. space-of a.heap.view o m g p is gate-there shared-there (subst (λ (v : View). MayGrowBy v o m g.entries (key_of p)) (again ∙ read) (room.0 yes))
+          , λ space. room.1 (subst (λ (v : View). MayGrowBy v o m g.entries (key_of p)) (sym (again ∙ read)) (may-of a.heap.view o m g p is gate-there shared-there space)) )
+
+      pub call-needs : (IsTrue done → x.used ≡ with_growth y.trail o m g.entries (key_of p) y.used) → (done ≡ false → x ≡ y) → IsWithin (add_need b.heap.view.trail o p) b.heap.view.used x.used
+      call-needs grown still = subst (λ (s : ObjectsState P). IsWithin (add_need s.heap.view.trail o p) s.heap.view.used x.used) same (by done grown still)
+        where
+          by : (d : Bool) → (IsTrue d → x.used ≡ with_growth y.trail o m g.entries (key_of p) y.used) → (d ≡ false → x ≡ y) → IsWithin (add_need a.heap.view.trail o p) a.heap.view.used x.used
+          by true grew stay = within-of a.heap.view o m g p is gate-there shared-there x.used (subst (λ (v : View). x.used ≡ with_growth v.trail o m g.entries (key_of p) v.used) (again ∙ read) (grew refl))
+          by false grew stay = within-same (add_need a.heap.view.trail o p) a.heap.view.used x.used (ap (λ (v : View). v.used) (stay refl ∙ again ∙ read))
+
+      pub call-protos : (IsTrue done → IsMoved y x o m g.entries p) → (done ≡ false → x ≡ y) → (q : ℕ) → (root_in x.trail q).is_proto ≡ (root_in b.heap.view.trail q).is_proto
+      call-protos moved still q = subst (λ (s : ObjectsState P). (root_in x.trail q).is_proto ≡ (root_in s.heap.view.trail q).is_proto) same (by done moved still)
+        where
+          by : (d : Bool) → (IsTrue d → IsMoved y x o m g.entries p) → (d ≡ false → x ≡ y) → (root_in x.trail q).is_proto ≡ (root_in a.heap.view.trail q).is_proto
+          by true went stay = let there = moved-here (went refl) in protos-stay a.heap.view x.trail o there.changed.writes there.proto q
+          by false went stay = ap (λ (v : View). (root_in v.trail q).is_proto) (stay refl ∙ again ∙ read)

@@ -25,9 +25,11 @@ pub mod Shown
 pub mod Fitting
 pub mod Joining
 pub mod Childed
+pub mod Needing
 pub mod Adding
 pub mod Creating
 pub mod Slowed
 pub mod Left
 pub mod Composing
+pub mod Still
 pub mod Restricting

@@ -1,5 +1,5 @@
 -- How an object's slots are filled, and how it comes to a map with one entry more.
-use Rattle.std.specs.Prelude.{◌≡◌, ℕ, ◌+◌, ◌<◌, ◌≤◌, nat_lt, false, Some, IsSomeAnd, if◌then◌else◌}
+use Rattle.std.specs.Prelude.{◌≡◌, ℕ, ◌+◌, ◌<◌, ◌≤◌, nat_lt, false, Some, if◌then◌else◌}
 use Rattle.hc_layout.specs.Capacity.{cap_of}
 use Rattle.hc_layout.specs.declared.shape.Region.TheVariants.{Slots}
 use Rattle.hc_layout.specs.declared.shape.Shape.{Shape}
@@ -72,7 +72,3 @@ pub record IsMoved (old new : View) (o m n : ℕ) (p : Prop) : Type 0 where
 pub record MayGrowBy (v : View) (o m n : ℕ) (key : Key) : Type 0 where
   pub slots : HasRoom v Slots (slots_need n (store_in v.trail o).capacity)
   pub child : HasSpace v (child_need (live_child v.trail m key) n)
-
--- there is room for a property more of an object that has a map
-abbrev pub HasRoomFor : View → ℕ → Prop → Type 0
-HasRoomFor v o p = IsSomeAnd (map_in v.trail o) (λ m. MayGrowBy v o m (count_of v.trail m) (key_of p))

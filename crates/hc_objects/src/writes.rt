@@ -1,12 +1,13 @@
 //! Changes of one object that is fast.
-ghost use Rattle.std.specs.Prelude.{◌≡◌, ◌<◌, ◌↔◌, true, false, IsTrue, None, Some, length};
+ghost use Rattle.std.specs.Prelude.{ℕ, ◌≡◌, ◌<◌, ◌↔◌, true, false, IsTrue, None, Some, length};
 ghost use Rattle.hc_layout.specs.declared.capacity.TheConstants.{MAX_FAST};
 ghost use Rattle.hc_value.specs.Prop.{kind_of};
 ghost use Rattle.hc_heap.specs.Readings.{root_in};
+ghost use Rattle.hc_tree.specs.Needs.{HasSpace};
 ghost use Rattle.hc_table.specs.Attributes.{IsProper};
 ghost use Rattle.hc_table.specs.Changes.{Added, Wrote, kind_at};
 ghost use Rattle.hc_table.specs.World.{object, props_at, place_of};
-ghost use Rattle.hc_objects.specs.Filling.{HasRoomFor};
+ghost use Rattle.hc_objects.specs.Modes.{IsWithin, add_need};
 ghost use Rattle.hc_objects.specs.Meaning.{kept_of};
 ghost use Rattle.hc_table.specs.Ranges.{IsHeldInRange};
 ghost use Rattle.hc_objects.specs.Came.{Steps, IsStill, world_of};
@@ -32,6 +33,7 @@ impl<P: Pace> Objects<P> {
         ensures kept { self.new.kept ≡ self.old.kept }
         ensures null { self.new.of_null ≡ self.old.of_null }
         ensures used { self.new.heap.view.used ≡ self.old.heap.view.used }
+        ensures protos { (q : ℕ) → (root_in self.new.heap.view.trail q).is_proto ≡ (root_in self.old.heap.view.trail q).is_proto }
     {
         maps_are_kept();
         details_rise();
@@ -52,11 +54,12 @@ impl<P: Pace> Objects<P> {
         requires few { length (props_at (world_of self.old) o) < MAX_FAST }
         requires extensible { (object (world_of self.old) o).extensible ≡ true }
         requires proper { IsProper p }
-        requires range { IsHeldInRange p.held }
         requires shared { (root_in self.old.heap.view.trail o).is_proto ≡ false }
-        ensures room { IsTrue result ↔ HasRoomFor self.old.heap.view o p }
+        ensures room { IsTrue result ↔ HasSpace self.old.heap.view (add_need self.old.heap.view.trail o p) }
         ensures added { IsTrue result → Steps P.went self.old (Added o p) self.new }
         ensures still { result ≡ false → IsStill self.old self.new }
+        ensures needs { IsWithin (add_need self.old.heap.view.trail o p) self.old.heap.view.used self.new.heap.view.used }
+        ensures protos { (q : ℕ) → (root_in self.new.heap.view.trail q).is_proto ≡ (root_in self.old.heap.view.trail q).is_proto }
         ensures kept { self.new.kept ≡ self.old.kept }
         ensures null { self.new.of_null ≡ self.old.of_null }
     {

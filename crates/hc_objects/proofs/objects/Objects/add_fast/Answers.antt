@@ -6,7 +6,7 @@ use Rattle.hc_heap.specs.States.{View, HeapState}
 use Rattle.hc_table.specs.Changes.{Added}
 use Rattle.hc_objects.specs.Came.{Steps}
 use Rattle.hc_objects.specs.State.{ObjectsState}
-use Rattle.hc_objects.proofs.Adding.{call-ready, call-sound, call-world}
+use Rattle.hc_objects.proofs.Adding.{call-ready, call-sound, call-world, call-room, call-needs, call-protos}
 use Rattle.hc_objects.proofs.Shown.{fast-has}
 use Rattle.hc_objects.proofs.objects.Objects.add_fast.Goals as goal
 
@@ -76,3 +76,26 @@ returns-clause-added g c = λ yes.
           (goes-on c.map_of-map.new.h.desk c.gate.new.self.desk c.grow_object.new.h.desk c.gate.ensures.goes c.grow_object.ensures.goes);
       went = on _ _ _ _ _ _ c.map_of-map.ensures.went (on _ _ _ _ _ _ c.gate.ensures.went c.grow_object.ensures.went);
     })
+
+pub returns-clause-room : goal.returns-clause-room
+returns-clause-room g c =
+    let read : c.map_of-map.new.h.view ≡ c.self.inside.heap.view = ap (λ (s : HeapState g.row.P.Denot). s.view) c.map_of-map.ensures.new in
+    let again : c.gate.new.self.view ≡ c.map_of-map.new.h.view = ap (λ (s : HeapState g.row.P.Denot). s.view) c.gate.ensures.new in
+    let gate : gate_in c.map_of-map.new.h.view.trail c.map_of-map.result ≡ Some c.unwrap-gate.result = sym c.gate.ensures.value ∙ c.unwrap-gate.ensures in
+    call-room _ _ c.args.o c.args.p c.self.view_is c.self.invariant c.requires.object c.requires.fast c.requires.shared c.map_of-map.new.h.view c.gate.new.self.view c.map_of-map.result c.unwrap-gate.result read again c.map_of-map.ensures.map gate c.maps_are_kept.ensures.law c.details_rise.ensures.law c.trees_stay.ensures.law c.unused_says_nothing.ensures.law c.changes_keep.ensures.law c.grow_object.new.h.view c.grow_object.result c.grow_object.ensures.room
+
+pub returns-clause-needs : goal.returns-clause-needs
+returns-clause-needs g c =
+    let read : c.map_of-map.new.h.view ≡ c.self.inside.heap.view = ap (λ (s : HeapState g.row.P.Denot). s.view) c.map_of-map.ensures.new in
+    let again : c.gate.new.self.view ≡ c.map_of-map.new.h.view = ap (λ (s : HeapState g.row.P.Denot). s.view) c.gate.ensures.new in
+    let gate : gate_in c.map_of-map.new.h.view.trail c.map_of-map.result ≡ Some c.unwrap-gate.result = sym c.gate.ensures.value ∙ c.unwrap-gate.ensures in
+    call-needs _ _ c.args.o c.args.p c.self.view_is c.self.invariant c.requires.object c.requires.fast c.requires.shared c.map_of-map.new.h.view c.gate.new.self.view c.map_of-map.result c.unwrap-gate.result read again c.map_of-map.ensures.map gate c.maps_are_kept.ensures.law c.details_rise.ensures.law c.trees_stay.ensures.law c.unused_says_nothing.ensures.law c.changes_keep.ensures.law c.grow_object.new.h.view c.grow_object.result c.grow_object.ensures.used
+    (λ no. ap (λ (s : HeapState g.row.P.Denot). s.view) (c.grow_object.ensures.still no))
+
+pub returns-clause-protos : goal.returns-clause-protos
+returns-clause-protos g c =
+    let read : c.map_of-map.new.h.view ≡ c.self.inside.heap.view = ap (λ (s : HeapState g.row.P.Denot). s.view) c.map_of-map.ensures.new in
+    let again : c.gate.new.self.view ≡ c.map_of-map.new.h.view = ap (λ (s : HeapState g.row.P.Denot). s.view) c.gate.ensures.new in
+    let gate : gate_in c.map_of-map.new.h.view.trail c.map_of-map.result ≡ Some c.unwrap-gate.result = sym c.gate.ensures.value ∙ c.unwrap-gate.ensures in
+    call-protos _ _ c.args.o c.args.p c.self.view_is c.self.invariant c.requires.object c.requires.fast c.requires.shared c.map_of-map.new.h.view c.gate.new.self.view c.map_of-map.result c.unwrap-gate.result read again c.map_of-map.ensures.map gate c.maps_are_kept.ensures.law c.details_rise.ensures.law c.trees_stay.ensures.law c.unused_says_nothing.ensures.law c.changes_keep.ensures.law c.grow_object.new.h.view c.grow_object.result c.grow_object.ensures.moved
+    (λ no. ap (λ (s : HeapState g.row.P.Denot). s.view) (c.grow_object.ensures.still no))
