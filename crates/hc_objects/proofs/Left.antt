@@ -1,11 +1,12 @@
 -- A fast object that leaves its map for a dictionary, as what objects are before and after it.
-use Rattle.std.proofs.Common.{◌≡◌, ◌≢◌, ℕ, zero, suc, ◌<◌, ◌≤◌, List, [], ◌∷◌, Option, Some, None, length, set, refl, sym, ap, ◌∙◌, subst, arith}
+use Rattle.std.proofs.Common.{◌≡◌, ◌≢◌, ℕ, zero, suc, ◌<◌, ◌≤◌, Bool, true, false, cond, List, [], ◌∷◌, Option, Some, None, length, set, refl, sym, ap, ◌∙◌, subst, arith}
 use Rattle.std.specs.List.{AllByRecursion}
 use Rattle.hc_board.specs.Trail.{Access}
 use Rattle.hc_board.specs.States.{WriterState}
 use Rattle.hc_value.specs.declared.prop.Prop.{Prop}
-use Rattle.hc_heap.specs.Writes.{ObjectMap}
-use Rattle.hc_heap.specs.Readings.{map_in}
+use Rattle.hc_layout.specs.declared.words.MapBits.{MapBits}
+use Rattle.hc_heap.specs.Writes.{Trail, Bits, ObjectMap}
+use Rattle.hc_heap.specs.Readings.{bits_in, map_in, root_in}
 use Rattle.hc_heap.specs.Kept.{DetailsRise, UnusedSaysNothing}
 use Rattle.hc_heap.specs.Frames.{extends-none}
 use Rattle.hc_heap.specs.States.{View, HeapState, IsHeap, Goes, one_load}
@@ -106,3 +107,15 @@ module _ (maps : MapsAreKept) (details : DetailsRise) (trees : TreesStay) (unuse
     pub left-sound : IsObjects new (set kept o (Some d)) of_null
     left-sound = stepped-sound maps details old new kept of_null h (Some d) o (dictionary_object d) there step (ap (λ (v : View). v.used.objects) is)
         (subst (λ (w : World). IsKept (with_world (tables_of old kept) w)) (sym still) h.sound)
+
+-- what no write of a map's bits changes is the same after a map was made unstable
+pub marked-same : {T : Type 0} (t : Trail) (m : ℕ) (reading : Trail → T) → ((b : MapBits) → reading (Bits m b ∷ t) ≡ reading t) → reading (marked t m) ≡ reading t
+marked-same {T} t m reading same = by (bits_in t m).unstable
+  where
+    by : (b : Bool) → reading (cond b t (Bits m (record { unstable = true; deprecated = (bits_in t m).deprecated }) ∷ t)) ≡ reading t
+    by true = refl
+    by false = same (record { unstable = true; deprecated = (bits_in t m).deprecated })
+
+-- an object that leaves its map leaves all prototypes as they were
+pub left-protos : (old new : View) (o m : ℕ) (h : Option ℕ) → new ≡ record old { trail = ObjectMap o h ∷ marked old.trail m } → (p : ℕ) → (root_in new.trail p).is_proto ≡ (root_in old.trail p).is_proto
+left-protos old new o m h is p = ap (λ (v : View). (root_in v.trail p).is_proto) is ∙ marked-same old.trail m (λ (t : Trail). (root_in t p).is_proto) (λ b. refl)

@@ -31,3 +31,4 @@ pub mod Creating
 pub mod Slowed
 pub mod Left
 pub mod Composing
+pub mod Restricting

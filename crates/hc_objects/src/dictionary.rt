@@ -1,10 +1,12 @@
 //! What is kept of slow objects, and its changes, one by one.
-ghost use Rattle.std.specs.Prelude.{◌≡◌, ◌<◌, false, None, Some, [], ◌∷◌, ◌++◌, length, OnOk, OnErr, slice_set};
+ghost use Rattle.std.specs.Prelude.{◌≡◌, ◌<◌, false, None, Some, [], ◌∷◌, ◌++◌, length, map, OnOk, OnErr, slice_set};
+ghost use Rattle.hc_table.specs.Attributes.{restricted};
 ghost use Rattle.hc_table.specs.Changes.{name_at, removed_at};
 ghost use Rattle.hc_table.specs.Numbers.{IsNameNumber};
 ghost use Rattle.hc_table.specs.World.{place_of, held_at};
 
 use hc_dict::Dict;
+use hc_table::restrict;
 use hc_value::{Cause, Held, Memory, Prop};
 
 /// What is kept of a slow object, beside the words: why it is slow, and the object itself.
@@ -74,5 +76,23 @@ impl Dictionary {
         ensures locked { self.new ≡ record self.old { extensible = false } }
     {
         self.extensible = false;
+    }
+
+    // Seals the object, or freezes it.
+    pub(crate) fn restrict(&mut self, frozen: bool)
+        ensures restricted { self.new ≡ record self.old { extensible = false; props = map (restricted frozen) self.old.props } }
+    {
+        self.lock();
+        restrict_all(&mut self.props, frozen);
+    }
+}
+
+// Makes each property not configurable, and where it is frozen and holds a value, not writable either.
+fn restrict_all(props: &mut Dict, frozen: bool)
+    ensures restricted { props.new ≡ map (restricted frozen) props.old }
+{
+    for i in 0..props.len() {
+        let prop = props.prop(i);
+        props.set(i, restrict(prop, frozen));
     }
 }

@@ -2,7 +2,7 @@
 ghost use Rattle.std.specs.Prelude.{◌≡◌, ◌<◌, false, None, Some, IsSome, OnOk, OnErr, length};
 ghost use Rattle.hc_value.specs.Prop.{kind_of};
 ghost use Rattle.hc_table.specs.Attributes.{IsProper};
-ghost use Rattle.hc_table.specs.Changes.{Added, Wrote, Reconfigured, Removed, Linked, Locked, IsThere, kind_at, name_at, reaches};
+ghost use Rattle.hc_table.specs.Changes.{Added, Wrote, Reconfigured, Removed, Linked, Locked, Restricted, IsThere, kind_at, name_at, reaches};
 ghost use Rattle.hc_table.specs.Ranges.{IsHeldInRange};
 ghost use Rattle.hc_table.specs.World.{props_at, place_of};
 ghost use Rattle.hc_objects.specs.Changes.{KeptBut};
@@ -126,5 +126,22 @@ impl<P: Pace> Objects<P> {
         changes_keep();
         let slow = self.kept[o as usize].as_mut().unwrap();
         slow.lock();
+    }
+
+    // Seals a slow object, or freezes it. It takes no memory.
+    pub(crate) fn restrict_slow(&mut self, o: u32, frozen: bool)
+        requires object { o < length (world_of self.old) }
+        requires slow { IsSome (kept_of self.old.kept o) }
+        ensures steps { Steps P.went self.old (Restricted o frozen) self.new }
+        ensures heap { self.new.heap ≡ self.old.heap }
+        ensures null { self.new.of_null ≡ self.old.of_null }
+        ensures others { KeptBut o self.old.kept self.new.kept }
+        ensures cause { cause_in self.new.kept o ≡ cause_in self.old.kept o }
+    {
+        maps_are_kept();
+        details_rise();
+        changes_keep();
+        let slow = self.kept[o as usize].as_mut().unwrap();
+        slow.restrict(frozen);
     }
 }

@@ -3,7 +3,7 @@ use Rattle.std.specs.Prelude.{option_map}
 use Rattle.std.specs.List.{AllByRecursion}
 use Rattle.hc_value.specs.declared.reply.Cause.{Cause}
 use Rattle.hc_heap.specs.Writes.{ObjectMap}
-use Rattle.hc_heap.specs.Readings.{map_in}
+use Rattle.hc_heap.specs.Readings.{map_in, root_in}
 use Rattle.hc_heap.specs.Frames.{goes-on}
 use Rattle.hc_heap.specs.States.{View, HeapState, IsHeap}
 use Rattle.hc_tree.specs.Growth.{marked, IsUnmoved}
@@ -15,7 +15,7 @@ use Rattle.hc_objects.specs.Came.{Steps}
 use Rattle.hc_objects.specs.Meaning.{Dictionary, kept_of, object_shown, world}
 use Rattle.hc_objects.specs.State.{ObjectsState, HasMap}
 use Rattle.hc_objects.proofs.Items.{kept-set_here}
-use Rattle.hc_objects.proofs.Left.{unmoved-one, unmoved-on, unmoved-goes, unmoved-went, fast-is, map-used, left-world, left-sound}
+use Rattle.hc_objects.proofs.Left.{unmoved-one, unmoved-on, unmoved-goes, unmoved-went, fast-is, map-used, left-world, left-sound, left-protos}
 use Rattle.hc_objects.proofs.Shown.{within}
 use Rattle.hc_objects.proofs.Writing.{has-map}
 use Rattle.hc_objects.proofs.objects.Objects.leave.Goals as goal
@@ -162,3 +162,18 @@ returns-clause-cause g c =
     let fast : kept_of kept o ≡ None = subst (λ (s : ObjectsState g.row.P.Denot). kept_of s.kept c.args.o ≡ None) (sym c.self.view_is) c.requires.fast in
     let d = c.in_ok-slow.slow in
     ap (λ (x : Option Dictionary). option_map (λ y. y.cause) x) (kept-set_here kept o (Some d) there) ∙ ap (λ (x : Cause). let y : Option Cause = Some x in y) c.in_ok-slow.ensures.cause
+
+pub returns-clause-protos : goal.returns-clause-protos
+returns-clause-protos g c =
+    let v = c.self.inside.heap.view in
+    let kept = c.self.inside.kept.items in
+    let null = c.self.inside.of_null in
+    let o = c.args.o in
+    let there : o < length kept = within _ _ o c.self.view_is c.requires.object in
+    let fast : kept_of kept o ≡ None = subst (λ (s : ObjectsState g.row.P.Denot). kept_of s.kept c.args.o ≡ None) (sym c.self.view_is) c.requires.fast in
+    let read : c.dictionary_of.new.h.view ≡ v = ap (λ (s : HeapState g.row.P.Denot). s.view) c.dictionary_of.ensures.still in
+    let again : c.map_of-map.new.h.view ≡ v = ap (λ (s : HeapState g.row.P.Denot). s.view) c.map_of-map.ensures.new ∙ read in
+    let m = c.map_of-map.result in
+    let new = c.leave_map.new.h.view in
+    let is : new ≡ record v { trail = ObjectMap o None ∷ marked v.trail m } = c.leave_map.ensures.view ∙ ap (λ (w : View). let x : View = record w { trail = ObjectMap o None ∷ marked w.trail m } in x) again in
+    λ p. subst (λ (s : ObjectsState g.row.P.Denot). (root_in new.trail p).is_proto ≡ (root_in s.heap.view.trail p).is_proto) c.self.view_is (left-protos v new o m None is p)
