@@ -32,3 +32,5 @@ pub mod Slowed
 pub mod Left
 pub mod Composing
 pub mod Restricting
+pub mod Adds
+pub mod Alike

@@ -11,6 +11,7 @@ mod leaving;
 mod objects;
 mod reads;
 mod properties;
+mod shapes;
 mod slots;
 mod slow;
 mod stores;
