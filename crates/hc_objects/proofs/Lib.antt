@@ -33,3 +33,4 @@ pub mod Left
 pub mod Composing
 pub mod Still
 pub mod Restricting
+pub mod Altering
