@@ -190,9 +190,10 @@ module _ {P : Type 0} (a b : ObjectsState P) (o : ℕ) (p : Prop) (same : a ≡ 
     -- there was room exactly where the need says so, no more was handed out, and no object became a prototype
     module _ (done : Bool) where
       pub call-room : (IsTrue done ↔ MayGrowBy y o m g.entries (key_of p)) → IsTrue done ↔ HasSpace b.heap.view (add_need b.heap.view.trail o p)
-      call-room room = subst (λ (s : ObjectsState P). IsTrue done ↔ HasSpace s.heap.view (add_need s.heap.view.trail o p)) same
-          ( λ yes. space-of a.heap.view o m g p is gate-there shared-there (subst (λ (v : View). MayGrowBy v o m g.entries (key_of p)) (again ∙ read) (room.0 yes))
-          , λ space. room.1 (subst (λ (v : View). MayGrowBy v o m g.entries (key_of p)) (sym (again ∙ read)) (may-of a.heap.view o m g p is gate-there shared-there space)) )
+      call-room room = subst (λ (s : ObjectsState P). IsTrue done ↔ HasSpace s.heap.view (add_need s.heap.view.trail o p)) same (
+        λ yes. space-of a.heap.view o m g p is gate-there shared-there (subst (λ (v : View). MayGrowBy v o m g.entries (key_of p)) (again ∙ read) (room.0 yes)),
+        λ space. room.1 (subst (λ (v : View). MayGrowBy v o m g.entries (key_of p)) (sym (again ∙ read)) (may-of a.heap.view o m g p is gate-there shared-there space)),
+      )
 
       pub call-needs : (IsTrue done → x.used ≡ with_growth y.trail o m g.entries (key_of p) y.used) → (done ≡ false → x ≡ y) → IsWithin (add_need b.heap.view.trail o p) b.heap.view.used x.used
       call-needs grown still = subst (λ (s : ObjectsState P). IsWithin (add_need s.heap.view.trail o p) s.heap.view.used x.used) same (by done grown still)

@@ -34,3 +34,4 @@ pub mod Composing
 pub mod Restricting
 pub mod Adds
 pub mod Alike
+pub mod Altering

@@ -1,6 +1,7 @@
 //! Fast and slow objects over the tree of maps.
 #![tactic(auto)]
 
+mod changing;
 mod creates;
 mod dictionary;
 mod entries;
