@@ -31,3 +31,6 @@ pub mod Creating
 pub mod Slowed
 pub mod Left
 pub mod Composing
+pub mod Prototypes
+pub mod Owned
+pub mod Become

@@ -4,5 +4,6 @@ pub mod State
 pub mod Changes
 pub mod Filling
 pub mod Creating
+pub mod Becoming
 pub mod Modes
 pub mod Came

@@ -1,8 +1,8 @@
 //! An object that leaves its map for a dictionary.
-ghost use Rattle.std.specs.Prelude.{◌≡◌, ◌<◌, ◌≤◌, None, Some, IfOk, OnOk, OnErr, length};
+ghost use Rattle.std.specs.Prelude.{ℕ, ◌≡◌, ◌≢◌, ◌<◌, ◌≤◌, None, Some, IfOk, OnOk, OnErr, length};
 ghost use Rattle.std.specs.List.{AllByRecursion};
 ghost use Rattle.hc_descs.specs.Entries.{count_of};
-ghost use Rattle.hc_heap.specs.Readings.{map_in};
+ghost use Rattle.hc_heap.specs.Readings.{map_in, root_in};
 ghost use Rattle.hc_table.specs.Attributes.{IsProper};
 ghost use Rattle.hc_table.specs.Changes.{Moved};
 ghost use Rattle.hc_table.specs.World.{HaveDistinctNames};
@@ -89,6 +89,8 @@ impl<P: Pace> Objects<P> {
         ensures null { self.new.of_null ≡ self.old.of_null }
         ensures others { KeptBut o self.old.kept self.new.kept }
         ensures used { self.new.heap.view.used ≡ self.old.heap.view.used }
+        ensures roots { (q : ℕ) → root_in self.new.heap.view.trail q ≡ root_in self.old.heap.view.trail q }
+        ensures maps { (q : ℕ) → q ≢ o → map_in self.new.heap.view.trail q ≡ map_in self.old.heap.view.trail q }
     {
         maps_are_kept();
         details_rise();

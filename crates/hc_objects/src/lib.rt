@@ -1,6 +1,7 @@
 //! Fast and slow objects over the tree of maps.
 #![tactic(auto)]
 
+mod becoming;
 mod creates;
 mod dictionary;
 mod entries;
