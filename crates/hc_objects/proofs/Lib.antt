@@ -35,3 +35,6 @@ pub mod Restricting
 pub mod Adds
 pub mod Alike
 pub mod Altering
+pub mod Prototypes
+pub mod Owned
+pub mod Become

@@ -2,6 +2,7 @@
 #![tactic(auto)]
 
 mod changing;
+mod becoming;
 mod creates;
 mod dictionary;
 mod entries;
