@@ -4,7 +4,7 @@ pub mod State
 pub mod Changes
 pub mod Filling
 pub mod Creating
-pub mod Becoming
 pub mod Modes
 pub mod Came
+pub mod Becoming
 pub mod Laws
