@@ -1,9 +1,5 @@
 //! An object that leaves its map for a dictionary.
-<<<<<<< HEAD
-ghost use Rattle.std.specs.Prelude.{ℕ, ◌≡◌, ◌<◌, ◌≤◌, None, Some, IfOk, OnOk, OnErr, length};
-=======
 ghost use Rattle.std.specs.Prelude.{ℕ, ◌≡◌, ◌≢◌, ◌<◌, ◌≤◌, None, Some, IfOk, OnOk, OnErr, length};
->>>>>>> 836b62cf725437a3231e5aff76e547847c424bf1
 ghost use Rattle.std.specs.List.{AllByRecursion};
 ghost use Rattle.hc_descs.specs.Entries.{count_of};
 ghost use Rattle.hc_heap.specs.Readings.{map_in, root_in};
@@ -93,12 +89,9 @@ impl<P: Pace> Objects<P> {
         ensures null { self.new.of_null ≡ self.old.of_null }
         ensures others { KeptBut o self.old.kept self.new.kept }
         ensures used { self.new.heap.view.used ≡ self.old.heap.view.used }
-<<<<<<< HEAD
         ensures protos { (p : ℕ) → (root_in self.new.heap.view.trail p).is_proto ≡ (root_in self.old.heap.view.trail p).is_proto }
-=======
         ensures roots { (q : ℕ) → root_in self.new.heap.view.trail q ≡ root_in self.old.heap.view.trail q }
         ensures maps { (q : ℕ) → q ≢ o → map_in self.new.heap.view.trail q ≡ map_in self.old.heap.view.trail q }
->>>>>>> 836b62cf725437a3231e5aff76e547847c424bf1
     {
         maps_are_kept();
         details_rise();
