@@ -17,6 +17,7 @@ mod shapes;
 mod slots;
 mod slow;
 mod stores;
+mod tables;
 mod writes;
 
 pub use dictionary::Dictionary;
