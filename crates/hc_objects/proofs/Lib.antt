@@ -34,3 +34,4 @@ pub mod Composing
 pub mod Still
 pub mod Restricting
 pub mod Altering
+pub mod Shrinking

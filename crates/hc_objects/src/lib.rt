@@ -11,6 +11,7 @@ mod held;
 mod leaving;
 mod objects;
 mod reads;
+mod removing;
 mod slots;
 mod slow;
 mod stores;
