@@ -38,3 +38,4 @@ pub mod Altering
 pub mod Prototypes
 pub mod Owned
 pub mod Become
+pub mod Shrinking

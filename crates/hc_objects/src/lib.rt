@@ -1,8 +1,8 @@
 //! Fast and slow objects over the tree of maps.
 #![tactic(auto)]
 
-mod changing;
 mod becoming;
+mod changing;
 mod creates;
 mod dictionary;
 mod entries;
@@ -11,8 +11,9 @@ mod growing;
 mod held;
 mod leaving;
 mod objects;
-mod reads;
 mod properties;
+mod reads;
+mod removing;
 mod shapes;
 mod slots;
 mod slow;

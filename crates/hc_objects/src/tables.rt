@@ -59,7 +59,7 @@ impl<P: Pace> Tables for Objects<P> {
     }
 
     fn remove(&mut self, o: u32, i: u32) -> Result<(), Memory> {
-        unreachable!()
+        Objects::remove(self, o, i)
     }
 
     fn set_proto(&mut self, o: u32, proto: Option<u32>) -> Result<(), Memory> {
