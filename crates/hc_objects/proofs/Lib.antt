@@ -33,7 +33,7 @@ pub mod Left
 pub mod Composing
 pub mod Restricting
 pub mod Adds
-pub mod Alike
+pub mod OneMap
 pub mod Altering
 pub mod Prototypes
 pub mod Owned
