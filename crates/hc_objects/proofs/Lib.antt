@@ -29,3 +29,9 @@ pub mod Adding
 pub mod Creating
 pub mod Slowed
 pub mod Left
+pub mod Copied
+pub mod Alike
+pub mod Relinking
+pub mod GrownAlone
+pub mod Linking
+pub mod AddingAlone

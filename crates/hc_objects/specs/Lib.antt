@@ -6,4 +6,5 @@ pub mod Changes
 pub mod Filling
 pub mod Creating
 pub mod Modes
+pub mod Privates
 pub mod Came

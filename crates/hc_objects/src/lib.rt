@@ -9,6 +9,7 @@ mod growing;
 mod held;
 mod leaving;
 mod objects;
+mod privates;
 mod reads;
 mod slots;
 mod slow;
