@@ -39,3 +39,9 @@ pub mod Prototypes
 pub mod Owned
 pub mod Become
 pub mod Shrinking
+pub mod Copied
+pub mod Alike
+pub mod Relinking
+pub mod GrownAlone
+pub mod Linking
+pub mod AddingAlone

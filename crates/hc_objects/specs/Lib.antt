@@ -6,5 +6,6 @@ pub mod Filling
 pub mod Creating
 pub mod Becoming
 pub mod Modes
+pub mod Privates
 pub mod Came
 pub mod Laws

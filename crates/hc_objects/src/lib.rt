@@ -11,6 +11,7 @@ mod growing;
 mod held;
 mod leaving;
 mod objects;
+mod privates;
 mod properties;
 mod reads;
 mod removing;
