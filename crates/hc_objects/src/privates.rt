@@ -19,7 +19,7 @@ ghost use Rattle.hc_objects.specs.Meaning.{kept_of};
 ghost use Rattle.hc_objects.specs.Modes.{IsWithin, add_need, link_need};
 ghost use Rattle.hc_objects.specs.Privates.{IsCopied, IsGrownAlone, IsMovedToCopy, private_need};
 ghost use Rattle.hc_objects.specs.State.{AreHandedOut};
-ghost use Rattle.hc_objects.specs.Words.{IsHeldInRange};
+ghost use Rattle.hc_table.specs.Ranges.{IsHeldInRange};
 
 use crate::fast::map_of;
 use crate::growing::tagged_detail;

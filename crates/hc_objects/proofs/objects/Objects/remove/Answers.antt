@@ -7,7 +7,7 @@ use Rattle.hc_objects.specs.Meaning.{kept_of}
 use Rattle.hc_objects.specs.State.{ObjectsState}
 use Rattle.hc_objects.proofs.Altering.{fast-made}
 use Rattle.hc_objects.proofs.Shrinking.{shrunk-one}
-use Rattle.hc_objects.proofs.Still.{made-before}
+use Rattle.hc_objects.specs.Laws.{made-before}
 use Rattle.hc_objects.proofs.objects.Objects.remove.Goals as goal
 
 pub returns-then-is_last-clause-did : goal.returns-then-is_last-clause-did
