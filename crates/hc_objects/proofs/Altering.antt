@@ -1,18 +1,15 @@
 -- What becomes of an object by one change, fast or slow.
-use Rattle.std.proofs.Common.{◌≡◌, ℕ, zero, suc, ◌<◌, Bool, true, false, List, [], ◌∷◌, Option, Some, None, IsSome, length, get_or, set, refl, sym, ap, ◌∙◌, subst, arith}
+use Rattle.std.proofs.Common.{◌≡◌, ℕ, Bool, false, List, Option, Some, None, IsSome, set, refl, sym, ap, ◌∙◌}
 use Rattle.std.specs.Prelude.{IsTrue, option_map, slice_get}
 use Rattle.std.specs.Option.{is_some}
 use Rattle.hc_board.specs.Trail.{Access}
 use Rattle.hc_value.specs.Prop.{kind_of}
-use Rattle.hc_value.specs.declared.attrs.Attrs.{Attrs}
 use Rattle.hc_value.specs.declared.key.Key.{Key}
-use Rattle.hc_value.specs.declared.prop.Held.{Held}
-use Rattle.hc_value.specs.declared.prop.Kind.{Kind}
 use Rattle.hc_value.specs.declared.prop.Prop.{Prop}
 use Rattle.hc_heap.specs.Readings.{root_in}
 use Rattle.hc_heap.specs.States.{HeapState}
 use Rattle.hc_table.specs.Changes.{Did, Moved, kind_at, with_property}
-use Rattle.hc_table.specs.World.{Object, World, object, props_at, with_list, with_written, holding, held_at}
+use Rattle.hc_table.specs.World.{World, object, props_at, with_list, with_written, holding, held_at}
 use Rattle.hc_objects.specs.Changes.{key_of}
 use Rattle.hc_objects.specs.Meaning.{Dictionary}
 use Rattle.hc_objects.specs.Modes.{Modes, Names, need_of}

@@ -33,8 +33,15 @@ pub mod Left
 pub mod Composing
 pub mod Restricting
 pub mod Adds
-pub mod Alike
+pub mod OneMap
 pub mod Altering
 pub mod Prototypes
 pub mod Owned
 pub mod Become
+pub mod Shrinking
+pub mod Copied
+pub mod Alike
+pub mod Relinking
+pub mod GrownAlone
+pub mod Linking
+pub mod AddingAlone

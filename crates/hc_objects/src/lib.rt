@@ -11,12 +11,15 @@ mod growing;
 mod held;
 mod leaving;
 mod objects;
+mod privates;
 mod properties;
 mod reads;
+mod removing;
 mod shapes;
 mod slots;
 mod slow;
 mod stores;
+mod tables;
 mod writes;
 
 pub use dictionary::Dictionary;

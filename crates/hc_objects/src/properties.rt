@@ -41,7 +41,7 @@ impl<P: Pace> Objects<P> {
         ensures still { result ≡ false → IsStill self.old self.new }
     {
         if self.is_proto(o) {
-            return self.add_fast(o, *p);
+            return self.add_private(o, *p);
         }
         self.add_fast(o, *p)
     }

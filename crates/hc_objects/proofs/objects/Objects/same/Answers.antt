@@ -1,7 +1,7 @@
 use Rattle.std.proofs.Common.{◌≡◌, ◌∙◌, Some, ap, sym}
 use Rattle.hc_heap.specs.Readings.{map_in}
 use Rattle.hc_objects.specs.State.{ObjectsState}
-use Rattle.hc_objects.proofs.Alike.{compared}
+use Rattle.hc_objects.proofs.OneMap.{compared}
 use Rattle.hc_objects.proofs.objects.Objects.same.Goals as goal
 
 pub returns-clause-others : goal.returns-clause-others
