@@ -45,3 +45,5 @@ pub mod Relinking
 pub mod GrownAlone
 pub mod Linking
 pub mod AddingAlone
+pub mod Entering
+pub mod Created

@@ -1,31 +1,68 @@
--- How an object without properties is made whose prototype is null.
-use Rattle.std.specs.Prelude.{◌≡◌, ℕ, ◌+◌, Option, Some, None, ◌∷◌, ⊤}
-use Rattle.hc_layout.specs.declared.shape.Region.TheVariants.{Maps}
-use Rattle.hc_heap.specs.Writes.{Trail, ObjectMap}
-use Rattle.hc_heap.specs.States.{View, IsHeap, HasRoom}
-use Rattle.hc_tree.specs.Growth.{with_root}
+-- How an object without properties is made: slow at first, and fast where there is room for the root of its prototype.
+use Rattle.std.specs.Prelude.{◌≡◌, ℕ, ◌+◌, Option, Some, None, IfSome, List, length, ⊤}
+use Rattle.hc_board.specs.Trail.{Access}
+use Rattle.hc_value.specs.declared.reply.Cause.TheVariants.{Space}
+use Rattle.hc_heap.specs.Readings.{root_in}
+use Rattle.hc_heap.specs.States.{View, IsHeap}
+use Rattle.hc_heap.specs.Writes.{Trail}
+use Rattle.hc_tree.specs.Growth.{root_of, root_need, with_named_root, of_null_after}
+use Rattle.hc_tree.specs.Needs.{HasSpace, with_need}
 use Rattle.hc_tree.specs.Tree.{IsTree, IsRoot}
+use Rattle.hc_table.specs.Changes.{Created, Moved}
+use Rattle.hc_table.specs.World.{new_object, object}
+use Rattle.hc_objects.specs.Becoming.{IsSettled, IsSpare}
+use Rattle.hc_objects.specs.Came.{Steps, world_of}
+use Rattle.hc_objects.specs.Changes.{KeptBut}
+use Rattle.hc_objects.specs.Meaning.{Dictionary, cause_in}
+use Rattle.hc_objects.specs.Modes.{StaysFast, if_fast}
+use Rattle.hc_objects.specs.State.{ObjectsState}
 
--- a root of null is there, or there is room for one
-abbrev pub HasRoomForRoot : View → Option ℕ → Type 0
-HasRoomForRoot v (Some r) = ⊤
-HasRoomForRoot v None = HasRoom v Maps 1
+-- the dictionary of the prototype that a new object names, where it needs one
+abbrev pub IsSpareOf : {P : Type 0} → ObjectsState P → Option ℕ → Option Dictionary → Type 0
+IsSpareOf s (Some p) spare = IsSpare s p spare
+IsSpareOf s None spare = ⊤
 
--- the trail after a root of null was made where there was none
-abbrev pub rooted : Option ℕ → Trail → ℕ → Trail
-rooted (Some r) t root = t
-rooted None t root = with_root t None root
+-- the prototype that a new object names became one
+abbrev pub IsSettledFor : {P : Type 0} → (P → List Access → List Access → P → Type 0) → ObjectsState P → Option ℕ → ObjectsState P → Type 0
+IsSettledFor went a (Some p) b = IsSettled went a p b
+IsSettledFor went a None b = b ≡ a
 
--- the next object got the root of null as its map, and the root was made where there was none
-pub record IsPlaced (old new : View) (null then_null : Option ℕ) (o : ℕ) : Type 0 where
-  pub root : ℕ
-  pub is_root : IsRoot new.trail None root
-  pub named : then_null ≡ Some root
-  pub found : (r : ℕ) → null ≡ Some r → root ≡ r
-  pub number : o ≡ old.used.objects
-  pub trail : new.trail ≡ ObjectMap o (Some root) ∷ rooted null old.trail root
-  pub objects : new.used.objects ≡ old.used.objects + 1
-  pub slots : new.used.slots ≡ old.used.slots
-  pub shape : new.shape ≡ old.shape
-  pub tree : IsTree new.trail
-  pub heap : IsHeap new
+-- a slow object was made
+pub record IsBegun {P : Type 0} (goes_with : P → List Access → List Access → P → Type 0) (a : ObjectsState P) (proto : Option ℕ) (o : ℕ) (b : ObjectsState P) : Type 0 where
+  pub number : o ≡ length a.kept
+  pub steps : Steps goes_with a (Created proto) b
+  pub view : b.heap.view ≡ record a.heap.view { used = record a.heap.view.used { objects = o + 1 } }
+  pub value : object (world_of b) o ≡ new_object proto
+  pub cause : cause_in b.kept o ≡ Some Space
+  pub others : KeptBut o a.kept b.kept
+  pub null : b.of_null ≡ a.of_null
+
+-- the trail after the root of a prototype, or of null, was made where there was none
+abbrev pub rooted : Option ℕ → Trail → Option ℕ → ℕ → Trail
+rooted (Some m) t proto r = t
+rooted None t proto r = with_named_root t proto r
+
+-- the root of null then
+abbrev pub null_after : Option ℕ → Option ℕ → Option ℕ → ℕ → Option ℕ
+null_after (Some m) proto of_null r = of_null
+null_after None proto of_null r = of_null_after proto of_null r
+
+-- the root of a prototype, or of null, was found or made
+pub record IsRooted (v w : View) (proto null then_null : Option ℕ) (r : ℕ) : Type 0 where
+  pub is_root : IsRoot w.trail proto r
+  pub found : (m : ℕ) → root_of v.trail proto null ≡ Some m → r ≡ m
+  pub trail : w.trail ≡ rooted (root_of v.trail proto null) v.trail proto r
+  pub named : then_null ≡ null_after (root_of v.trail proto null) proto null r
+  pub null_root : IfSome then_null (λ m. IsRoot w.trail None m)
+  pub used : w.used ≡ with_need (root_need (root_of v.trail proto null)) v.used
+  pub shape : w.shape ≡ v.shape
+  pub tree : IsTree w.trail
+  pub heap : IsHeap w
+
+-- a new object is fast now exactly where there is room for the root of its prototype
+pub record IsEntered {P : Type 0} (goes_with : P → List Access → List Access → P → Type 0) (a : ObjectsState P) (o : ℕ) (proto : Option ℕ) (b : ObjectsState P) : Type 0 where
+  pub steps : Steps goes_with a Moved b
+  pub mode : StaysFast (HasSpace a.heap.view (root_need (root_of a.heap.view.trail proto a.of_null))) (cause_in b.kept o)
+  pub used : b.heap.view.used ≡ with_need (if_fast (cause_in b.kept o) (root_need (root_of a.heap.view.trail proto a.of_null))) a.heap.view.used
+  pub protos : (q : ℕ) → (root_in b.heap.view.trail q).is_proto ≡ (root_in a.heap.view.trail q).is_proto
+  pub others : KeptBut o a.kept b.kept

@@ -3,9 +3,9 @@ pub mod Meaning
 pub mod State
 pub mod Changes
 pub mod Filling
-pub mod Creating
 pub mod Modes
 pub mod Privates
 pub mod Came
 pub mod Becoming
 pub mod Laws
+pub mod Creating

@@ -24,7 +24,7 @@ fn there_is_no_object_at_first(rt: HostRuntime) -> Result<(), Fail> {
 #[test]
 fn a_new_object_is_fast_and_has_no_property(rt: HostRuntime) -> Result<(), Fail> {
     let mut objects = Objects::new(rt.alloc(), Shape::small(), Free)?;
-    assert!(rt; objects.create_null() == Ok(0));
+    assert!(rt; objects.create(None) == Ok(0));
     assert!(rt; objects.used(Region::Maps) == 1);
     let count = objects.count();
     assert!(rt; count == 1);
@@ -47,7 +47,7 @@ fn a_new_object_is_slow_where_no_root_fits(rt: HostRuntime) -> Result<(), Fail> 
         cells: 0,
     };
     let mut objects = Objects::new(rt.alloc(), shape, Free)?;
-    assert!(rt; objects.create_null() == Ok(0));
+    assert!(rt; objects.create(None) == Ok(0));
     assert!(rt; objects.writes() == 0);
     let count = objects.count();
     assert!(rt; count == 1);
@@ -55,14 +55,14 @@ fn a_new_object_is_slow_where_no_root_fits(rt: HostRuntime) -> Result<(), Fail> 
     assert!(rt; objects.extensible(0));
     assert!(rt; objects.len(0) == 0);
     assert!(rt; objects.find_own(0, 5) == None);
-    assert!(rt; objects.create_null() == Err(TableFault::Full));
+    assert!(rt; objects.create(None) == Err(TableFault::Full));
     Ok(())
 }
 
 #[test]
 fn an_object_that_leaves_its_map_is_as_it_was(rt: HostRuntime) -> Result<(), Fail> {
     let mut objects = Objects::new(rt.alloc(), Shape::small(), Free)?;
-    assert!(rt; objects.create_null() == Ok(0));
+    assert!(rt; objects.create(None) == Ok(0));
     let count = objects.count();
     assert!(rt; count == 1);
     assert!(rt; objects.leave(0, Cause::Many) == Ok(()));

@@ -1,0 +1,100 @@
+use Rattle.std.proofs.Common.{◌≡◌, ◌≢◌, ℕ, ◌<◌, ◌∷◌, false, List, Option, Some, None, length, set, refl, sym, ap, ◌∙◌, subst}
+use Rattle.std.specs.Prelude.{option_map}
+use Rattle.hc_layout.specs.declared.shape.Shape.{Shape}
+use Rattle.hc_value.specs.declared.reply.Cause.{Cause}
+use Rattle.hc_value.specs.declared.reply.Cause.TheVariants.{Space}
+use Rattle.hc_heap.specs.Writes.{ObjectMap}
+use Rattle.hc_heap.specs.Readings.{map_in, root_in}
+use Rattle.hc_heap.specs.Frames.{goes-on}
+use Rattle.hc_heap.specs.States.{View, IsHeap, with_write}
+use Rattle.hc_tree.specs.Growth.{root_of, root_need}
+use Rattle.hc_tree.specs.Needs.{HasSpace, with_need}
+use Rattle.hc_table.specs.World.{new_object, object}
+use Rattle.hc_objects.specs.Came.{world_of}
+use Rattle.hc_objects.specs.Creating.{IsEntered, IsRooted}
+use Rattle.hc_objects.specs.Meaning.{Dictionary, cause_in, kept_of, world}
+use Rattle.hc_objects.specs.Modes.{StaysFast, if_fast}
+use Rattle.hc_objects.specs.State.{ObjectsState, IsObjects}
+use Rattle.hc_objects.proofs.Become.{cause-some}
+use Rattle.hc_objects.proofs.Entering.{enter-lawful, enter-proto, enter-sound, enter-world, rooted-by}
+use Rattle.hc_objects.proofs.Items.{kept-set, kept-set_here}
+use Rattle.hc_objects.proofs.Prototypes.{slow-none}
+use Rattle.hc_objects.proofs.Rising.{some-of}
+use Rattle.hc_objects.proofs.Shown.{within}
+use Rattle.hc_objects.proofs.objects.Objects.enter_root.Goals as goal
+
+pub set_object_map-requires-clause-lawful : goal.set_object_map-requires-clause-lawful
+set_object_map-requires-clause-lawful g c =
+    let v = c.self.inside.heap.view in
+    let kept = c.self.inside.kept.items in
+    let null = c.self.inside.of_null in
+    let o = c.args.o in
+    let proto = c.args.proto in
+    let w = c.root.new.h.view in
+    let then = c.root.new.of_null in
+    let r = c.in-Ok.root in
+    let it : IsRooted v w proto null then r = rooted-by c.self.inside.heap c.root.new.h proto null then r c.in-Ok.ensures.root c.in-Ok.ensures.found c.in-Ok.ensures.used c.in-Ok.ensures.still c.in-Ok.ensures.null_still c.in-Ok.ensures.made c.in-Ok.ensures.null c.root.ensures.null_root c.root.ensures.shape c.root.ensures.tree c.root.ensures.heap in
+    let there : o < length kept = within _ _ o c.self.view_is c.requires.object in
+    let cause : cause_in kept o ≡ Some Space = subst (λ (s : ObjectsState g.row.P.Denot). cause_in s.kept o ≡ Some Space) (sym c.self.view_is) c.requires.slow in
+    let d = some-of (kept_of kept o) (cause-some kept o Space cause) in
+    let none : map_in v.trail o ≡ None = slow-none v kept null c.self.invariant o there d.0 d.1 in
+    let shared : (root_in v.trail o).is_proto ≡ false = subst (λ (s : ObjectsState g.row.P.Denot). (root_in s.heap.view.trail o).is_proto ≡ false) (sym c.self.view_is) c.requires.shared in
+    enter-lawful c.maps_are_kept.ensures.law c.details_rise.ensures.law c.trees_stay.ensures.law c.unused_says_nothing.ensures.law v w kept null then proto o r c.self.invariant it none shared
+
+pub invariant_of-self-2 : goal.invariant_of-self-2
+invariant_of-self-2 g c =
+    let v = c.self.inside.heap.view in
+    let kept = c.self.inside.kept.items in
+    let null = c.self.inside.of_null in
+    let o = c.args.o in
+    let proto = c.args.proto in
+    let w = c.root.new.h.view in
+    let then = c.root.new.of_null in
+    let r = c.in-Ok.root in
+    let it : IsRooted v w proto null then r = rooted-by c.self.inside.heap c.root.new.h proto null then r c.in-Ok.ensures.root c.in-Ok.ensures.found c.in-Ok.ensures.used c.in-Ok.ensures.still c.in-Ok.ensures.null_still c.in-Ok.ensures.made c.in-Ok.ensures.null c.root.ensures.null_root c.root.ensures.shape c.root.ensures.tree c.root.ensures.heap in
+    let there : o < length kept = within _ _ o c.self.view_is c.requires.object in
+    let cause : cause_in kept o ≡ Some Space = subst (λ (s : ObjectsState g.row.P.Denot). cause_in s.kept o ≡ Some Space) (sym c.self.view_is) c.requires.slow in
+    let d = some-of (kept_of kept o) (cause-some kept o Space cause) in
+    let none : map_in v.trail o ≡ None = slow-none v kept null c.self.invariant o there d.0 d.1 in
+    let shared : (root_in v.trail o).is_proto ≡ false = subst (λ (s : ObjectsState g.row.P.Denot). (root_in s.heap.view.trail o).is_proto ≡ false) (sym c.self.view_is) c.requires.shared in
+    let moved = c.set_object_map.ensures.view in
+    let heap : IsHeap (with_write w (ObjectMap o (Some r))) = subst IsHeap moved c.set_object_map.ensures.heap in
+    let value : object (world v.trail kept) o ≡ new_object proto = subst (λ (s : ObjectsState g.row.P.Denot). object (world_of s) o ≡ new_object proto) (sym c.self.view_is) c.requires.value in
+    subst (λ (x : View). IsObjects x (set kept o None) then) (sym moved) (enter-sound c.maps_are_kept.ensures.law c.details_rise.ensures.law c.trees_stay.ensures.law c.unused_says_nothing.ensures.law v w kept null then proto o r c.self.invariant it none shared heap there value)
+
+pub returns : goal.returns
+returns g c =
+    let v = c.self.inside.heap.view in
+    let kept = c.self.inside.kept.items in
+    let null = c.self.inside.of_null in
+    let o = c.args.o in
+    let proto = c.args.proto in
+    let w = c.root.new.h.view in
+    let then = c.root.new.of_null in
+    let r = c.in-Ok.root in
+    let it : IsRooted v w proto null then r = rooted-by c.self.inside.heap c.root.new.h proto null then r c.in-Ok.ensures.root c.in-Ok.ensures.found c.in-Ok.ensures.used c.in-Ok.ensures.still c.in-Ok.ensures.null_still c.in-Ok.ensures.made c.in-Ok.ensures.null c.root.ensures.null_root c.root.ensures.shape c.root.ensures.tree c.root.ensures.heap in
+    let there : o < length kept = within _ _ o c.self.view_is c.requires.object in
+    let cause : cause_in kept o ≡ Some Space = subst (λ (s : ObjectsState g.row.P.Denot). cause_in s.kept o ≡ Some Space) (sym c.self.view_is) c.requires.slow in
+    let d = some-of (kept_of kept o) (cause-some kept o Space cause) in
+    let none : map_in v.trail o ≡ None = slow-none v kept null c.self.invariant o there d.0 d.1 in
+    let shared : (root_in v.trail o).is_proto ≡ false = subst (λ (s : ObjectsState g.row.P.Denot). (root_in s.heap.view.trail o).is_proto ≡ false) (sym c.self.view_is) c.requires.shared in
+    let moved = c.set_object_map.ensures.view in
+    let heap : IsHeap (with_write w (ObjectMap o (Some r))) = subst IsHeap moved c.set_object_map.ensures.heap in
+    let value : object (world v.trail kept) o ≡ new_object proto = subst (λ (s : ObjectsState g.row.P.Denot). object (world_of s) o ≡ new_object proto) (sym c.self.view_is) c.requires.value in
+    let now = set kept o None in
+    let after : ObjectsState g.row.P.Denot = record { heap = c.set_object_map.new.self; kept = now; of_null = then } in
+    let fast : cause_in now o ≡ None = ap (λ (x : Option Dictionary). option_map (λ y. y.cause) x) (kept-set_here kept o None there) in
+    record {
+      entered = subst (λ (s : ObjectsState g.row.P.Denot). IsEntered g.P.Pace.went s o proto after) c.self.view_is (record {
+        steps = record {
+          world = subst (λ (x : View). world x.trail now ≡ world v.trail kept) (sym moved) (enter-world c.maps_are_kept.ensures.law c.details_rise.ensures.law c.trees_stay.ensures.law c.unused_says_nothing.ensures.law v w kept null then proto o r c.self.invariant it none shared heap there value);
+          shape = ap (λ (x : View). x.shape) moved ∙ it.shape;
+          goes = goes-on c.self.inside.heap.desk c.root.new.h.desk c.set_object_map.new.self.desk c.root.ensures.goes c.set_object_map.ensures.goes;
+          went = g.met.P.Pace.goes_on _ _ _ _ _ _ c.root.ensures.went c.set_object_map.ensures.went;
+        };
+        mode = subst (λ (x : Option Cause). StaysFast (HasSpace v (root_need (root_of v.trail proto null))) x) (sym fast) (record { stays = (λ e. c.in-Ok.ensures.space, λ s. refl); leaves = tt });
+        used = ap (λ (x : View). x.used) moved ∙ it.used ∙ ap (λ (x : Option Cause). with_need (if_fast x (root_need (root_of v.trail proto null))) v.used) (sym fast);
+        protos = λ q. subst (λ (x : View). (root_in x.trail q).is_proto ≡ (root_in v.trail q).is_proto) (sym moved) (enter-proto c.maps_are_kept.ensures.law c.details_rise.ensures.law c.trees_stay.ensures.law c.unused_says_nothing.ensures.law v w kept null then proto o r c.self.invariant it none shared heap q);
+        others = kept-set kept o None;
+      });
+    }
