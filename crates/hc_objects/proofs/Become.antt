@@ -1,5 +1,5 @@
 -- An object that becomes a prototype: why it is slow then, where it is, and what it needed.
-use Rattle.std.proofs.Common.{◌≡◌, ℕ, ◌+◌, Bool, true, false, cond, List, Option, Some, None, IsSome, refl, sym, ap, ◌∙◌, subst, arith}
+use Rattle.std.proofs.Common.{◌≡◌, ℕ, ◌+◌, ◌≤◌, Bool, true, false, cond, List, Option, Some, None, IsSome, refl, sym, ap, ◌∙◌, subst, arith}
 use Rattle.std.specs.Prelude.{option_map}
 use Rattle.hc_board.specs.Trail.{Access}
 use Rattle.hc_layout.specs.declared.shape.Shape.{Shape}
@@ -11,6 +11,7 @@ use Rattle.hc_heap.specs.States.{View, HeapState, IsHeap, one_load}
 use Rattle.hc_descs.specs.Entries.{count_of}
 use Rattle.hc_tree.specs.declared.need.Need.{Need}
 use Rattle.hc_tree.specs.Copying.{copy_need}
+use Rattle.hc_tree.specs.Growth.{IsUnmoved}
 use Rattle.hc_tree.specs.Needs.{HasSpace, no_need, with_need}
 use Rattle.hc_table.specs.Changes.{Moved}
 use Rattle.hc_objects.specs.Came.{IsStill, Steps}
@@ -97,47 +98,14 @@ module _ {P : Type 0} where
       ∙ ap (λ (x : Option ℕ). let s : ObjectsState P = record { heap = now; kept = a.kept; of_null = x } in s) null in
       subst (λ (s : ObjectsState P). IsStill a s) (sym is) (record { is = refl; loads = omega arith })
 
-  pub still-on : (a b c : ObjectsState P) → IsStill a b → IsStill b c → IsStill a c
-  still-on a b c x y = record {
-    is = y.is ∙ ap (λ (s : ObjectsState P). let r : ObjectsState P = record s { heap = record s.heap { desk = record s.heap.desk { loads = c.heap.desk.loads } } } in r) x.is;
-    loads = let first = x.loads in let second = y.loads in omega (arith, first, second);
-  }
-
-  module _ (went : P → List Access → List Access → P → Type 0) (stays : (p : P) (t : List Access) → went p t t p)
-      (law : (a b c : P) (first second third : List Access) → went a first second b → went b second third c → went a first third c) where
-    -- an object is slow: it was, or there is no room for its private map
-    pub record IsSlowed (a d : ObjectsState P) (p : ℕ) : Type 0 where
-      pub steps : Steps went a Moved d
-      pub slow : IsSome (kept_of d.kept p)
-      pub mode : Becomes (cause_in a.kept p) None (HasSpace a.heap.view (proto_need a.heap.view.trail p)) (cause_in d.kept p)
-      pub used : d.heap.view.used ≡ a.heap.view.used
-      pub others : KeptBut p a.kept d.kept
-
-    pub slowed-before : (a d : ObjectsState P) (p : ℕ) → IsStill a d → IsSome (kept_of a.kept p) → IsSlowed a d p
-    slowed-before a d p still slow =
-        let same : d.kept ≡ a.kept = ap (λ (s : ObjectsState P). s.kept) still.is in
-        let c = some-cause a.kept p slow in
-        record {
-          steps = still-steps went stays a d still;
-          slow = subst (λ (ks : List (Option Dictionary)). IsSome (kept_of ks p)) (sym same) slow;
-          mode = subst (λ (was : Option Cause). Becomes was None (HasSpace a.heap.view (proto_need a.heap.view.trail p)) (cause_in d.kept p)) (sym c.1)
-              (ap (λ (ks : List (Option Dictionary)). cause_in ks p) same ∙ c.1);
-          used = ap (λ (s : ObjectsState P). s.heap.view.used) still.is;
-          others = subst (λ (ks : List (Option Dictionary)). KeptBut p a.kept ks) (sym same) (kept-same p a.kept);
-        }
-
-    pub slowed-now : (a b d : ObjectsState P) (p : ℕ) → IsStill a b → kept_of a.kept p ≡ None → (HasSpace a.heap.view (proto_need a.heap.view.trail p) → ⊥)
-        → Steps went b Moved d → cause_in d.kept p ≡ Some Space → KeptBut p b.kept d.kept → d.heap.view.used ≡ b.heap.view.used → IsSlowed a d p
-    slowed-now a b d p still fast full steps cause but used =
-        let same : b.kept ≡ a.kept = ap (λ (s : ObjectsState P). s.kept) still.is in
-        record {
-          steps = steps-on went law a b d Moved (still-steps went stays a b still) steps;
-          slow = cause-some d.kept p Space cause;
-          mode = subst (λ (was : Option Cause). Becomes was None (HasSpace a.heap.view (proto_need a.heap.view.trail p)) (cause_in d.kept p)) (sym (no-cause a.kept p fast))
-              (subst (λ (now : Option Cause). StaysFast (HasSpace a.heap.view (proto_need a.heap.view.trail p)) now) (sym cause) (record {
-                stays = (λ e. let n : ⊥ = cc in absurd n, λ room. absurd (full room));
-                leaves = refl;
-              }));
-          used = used ∙ ap (λ (s : ObjectsState P). s.heap.view.used) still.is;
-          others = subst (λ (ks : List (Option Dictionary)). KeptBut p ks d.kept) same but;
-        }
+  -- loads were made
+  pub still-heap : (a d : ObjectsState P) → IsUnmoved a.heap d.heap → d.kept ≡ a.kept → d.of_null ≡ a.of_null → a.heap.desk.loads ≤ d.heap.desk.loads → IsStill a d
+  still-heap a d heap kept null le =
+      let now : HeapState P = record a.heap { desk = record a.heap.desk { loads = d.heap.desk.loads } } in
+      record {
+        is =
+            ap (λ (x : HeapState P). let s : ObjectsState P = record { heap = x; kept = d.kept; of_null = d.of_null } in s) heap
+            ∙ ap (λ (x : List (Option Dictionary)). let s : ObjectsState P = record { heap = now; kept = x; of_null = d.of_null } in s) kept
+            ∙ ap (λ (x : Option ℕ). let s : ObjectsState P = record { heap = now; kept = a.kept; of_null = x } in s) null;
+        loads = le;
+      }

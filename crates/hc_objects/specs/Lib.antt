@@ -4,8 +4,8 @@ pub mod State
 pub mod Changes
 pub mod Filling
 pub mod Creating
-pub mod Becoming
 pub mod Modes
 pub mod Privates
 pub mod Came
+pub mod Becoming
 pub mod Laws

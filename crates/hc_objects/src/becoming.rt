@@ -1,5 +1,5 @@
 //! An object that becomes a prototype.
-ghost use Rattle.std.specs.Prelude.{ℕ, ◌≡◌, ◌≢◌, ◌<◌, ◌≤◌, ◌↔◌, true, false, IsTrue, None, Some, IsSome, IfSome, OnOk, OnErr, length};
+ghost use Rattle.std.specs.Prelude.{ℕ, ◌≡◌, ◌≢◌, ◌<◌, ◌≤◌, ◌↔◌, true, false, IsTrue, None, Some, IsSome, IfOk, IfSome, OnOk, OnErr, length};
 ghost use Rattle.hc_layout.specs.declared.capacity.TheConstants.{MAX_FAST};
 ghost use Rattle.hc_heap.specs.Lawful.{IsOwnMap};
 ghost use Rattle.hc_heap.specs.Readings.{map_in, root_in};
@@ -7,16 +7,16 @@ ghost use Rattle.hc_heap.specs.States.{IsHeap, Goes};
 ghost use Rattle.hc_descs.specs.Entries.{count_of};
 ghost use Rattle.hc_table.specs.Changes.{Moved};
 ghost use Rattle.hc_tree.specs.Copying.{copy_need};
-ghost use Rattle.hc_tree.specs.Growth.{IsUnmoved};
 ghost use Rattle.hc_tree.specs.Needs.{HasSpace, with_need};
 ghost use Rattle.hc_tree.specs.Tree.{IsTree};
-ghost use Rattle.hc_objects.specs.Becoming.{HasBecome, IsOwned, with_proto};
+ghost use Rattle.hc_objects.specs.Becoming.{HasBecome, IsOwned, IsSettled, IsSpare, with_proto};
 ghost use Rattle.hc_objects.specs.Came.{Steps, IsStill, world_of};
 ghost use Rattle.hc_objects.specs.Changes.{KeptBut};
 ghost use Rattle.hc_objects.specs.Meaning.{cause_in, kept_of};
 ghost use Rattle.hc_objects.specs.Modes.{Becomes, if_fast, proto_need};
 ghost use Rattle.hc_objects.specs.State.{HasMap};
 
+use crate::dictionary::Dictionary;
 use crate::fast::map_of;
 use crate::objects::Objects;
 use hc_heap::{Heap, Pace, details_rise, forms_are_kept, gates_are_open, unused_says_nothing};
@@ -92,30 +92,6 @@ fn take_own_map<P: Pace>(h: &mut Heap<P>, object: u32, map: u32)
     set_is_proto(h, object);
 }
 
-// Has a fast object that isn't a prototype be one, with a private map. The answer is whether there was room for it;
-// where there was none, nothing is stored.
-fn own_map<P: Pace>(h: &mut Heap<P>, object: u32, map: u32) -> bool
-    requires tree { IsTree h.old.view.trail }
-    requires handed { object < h.old.view.used.objects }
-    requires fast { HasMap h.old.view.trail object }
-    requires has { map_in h.old.view.trail object ≡ Some map }
-    requires shared { (root_in h.old.view.trail object).is_proto ≡ false }
-    ensures room { IsTrue result ↔ HasSpace h.old.view (copy_need true None (count_of h.old.view.trail map)) }
-    ensures owned { IsTrue result → IsOwned h.old.view h.new.view object map }
-    ensures still { result ≡ false → IsUnmoved h.old h.new }
-    ensures goes { Goes h.old.desk h.new.desk }
-    ensures went { P.went h.old.pace h.old.desk.trail h.new.desk.trail h.new.pace }
-{
-    gates_are_open();
-    h.stands();
-    let n = h.gate(map).unwrap().entries;
-    if !has_space(h, own_need(n)) {
-        return false;
-    }
-    take_own_map(h, object, map);
-    true
-}
-
 impl<P: Pace> Objects<P> {
     // Has a slow object be a prototype from now on.
     fn mark_slow(&mut self, p: u32)
@@ -132,17 +108,15 @@ impl<P: Pace> Objects<P> {
         set_is_proto(&mut self.heap, p);
     }
 
-    // Has a fast object that isn't a prototype be one, with a private map. The answer is whether there was room for it;
-    // where there was none, nothing is stored.
-    fn own_fast(&mut self, p: u32) -> bool
+    // Has a fast object that isn't a prototype be one, with a private map, for which there is room.
+    fn own_fast(&mut self, p: u32)
         requires object { p < length (world_of self.old) }
         requires fast { kept_of self.old.kept p ≡ None }
         requires shared { (root_in self.old.heap.view.trail p).is_proto ≡ false }
-        ensures room { IsTrue result ↔ HasSpace self.old.heap.view (proto_need self.old.heap.view.trail p) }
-        ensures moved { IsTrue result → Steps P.went self.old Moved self.new }
-        ensures became { IsTrue result → HasBecome p self.old.heap.view.trail self.new.heap.view.trail }
-        ensures used { IsTrue result → self.new.heap.view.used ≡ with_need (proto_need self.old.heap.view.trail p) self.old.heap.view.used }
-        ensures still { result ≡ false → IsStill self.old self.new }
+        requires space { HasSpace self.old.heap.view (proto_need self.old.heap.view.trail p) }
+        ensures moved { Steps P.went self.old Moved self.new }
+        ensures became { HasBecome p self.old.heap.view.trail self.new.heap.view.trail }
+        ensures used { self.new.heap.view.used ≡ with_need (proto_need self.old.heap.view.trail p) self.old.heap.view.used }
         ensures kept { self.new.kept ≡ self.old.kept }
         ensures null { self.new.of_null ≡ self.old.of_null }
     {
@@ -150,7 +124,62 @@ impl<P: Pace> Objects<P> {
         details_rise();
         unused_says_nothing();
         let map = map_of(&mut self.heap, p);
-        own_map(&mut self.heap, p, map)
+        take_own_map(&mut self.heap, p, map);
+    }
+
+    // Whether there is room for a private map of a fast object that isn't a prototype.
+    fn fits_own(&mut self, p: u32) -> bool
+        requires object { p < length (world_of self.old) }
+        requires fast { kept_of self.old.kept p ≡ None }
+        requires shared { (root_in self.old.heap.view.trail p).is_proto ≡ false }
+        ensures room { IsTrue result ↔ HasSpace self.old.heap.view (proto_need self.old.heap.view.trail p) }
+        ensures still { IsStill self.old self.new }
+    {
+        gates_are_open();
+        let map = map_of(&mut self.heap, p);
+        let n = self.heap.gate(map).unwrap().entries;
+        has_space(&self.heap, own_need(n))
+    }
+
+    // The dictionary of an object that is to be a prototype, where it is fast, and there is no room for a private map.
+    pub(crate) fn spare(&mut self, p: u32) -> Result<Option<Dictionary>, Memory>
+        requires object { p < length (world_of self.old) }
+        ensures spare { IfOk result (λ d. IsSpare self.old p d) }
+        ensures still { IsStill self.old self.new }
+    {
+        if self.is_slow(p) {
+            return Ok(None);
+        }
+        if self.heap.object_root(p).is_proto {
+            return Ok(None);
+        }
+        if self.fits_own(p) {
+            return Ok(None);
+        }
+        let slow = self.dictionary(p, Cause::Space)?;
+        Ok(Some(slow))
+    }
+
+    // Has an object be a prototype from now on: a fast one gets a private map, or is slow with this dictionary, where
+    // there is no room for it. It takes no memory.
+    pub(crate) fn settle(&mut self, p: u32, spare: Option<Dictionary>)
+        requires object { p < length (world_of self.old) }
+        requires spare { IsSpare self.old p spare }
+        ensures settled { IsSettled P.went self.old p self.new }
+    {
+        if let Some(slow) = spare {
+            self.leave_with(p, slow);
+            self.mark_slow(p);
+            return;
+        }
+        if self.heap.object_root(p).is_proto {
+            return;
+        }
+        if self.is_slow(p) {
+            self.mark_slow(p);
+            return;
+        }
+        self.own_fast(p);
     }
 
     // Has an object be a prototype from now on: a fast one gets a private map, or is slow where there is no room for
@@ -168,16 +197,8 @@ impl<P: Pace> Objects<P> {
         ensures null { self.new.of_null ≡ self.old.of_null }
         ensures still { OnErr result (IsStill self.old self.new) }
     {
-        if self.heap.object_root(p).is_proto {
-            return Ok(());
-        }
-        if self.kept[p as usize].is_none() {
-            if self.own_fast(p) {
-                return Ok(());
-            }
-            self.leave(p, Cause::Space)?;
-        }
-        self.mark_slow(p);
+        let spare = self.spare(p)?;
+        self.settle(p, spare);
         Ok(())
     }
 }
