@@ -207,7 +207,6 @@ impl<P: Pace> Objects<P> {
         requires few { length (props_at (world_of self.old) o) < MAX_FAST }
         requires extensible { (object (world_of self.old) o).extensible ≡ true }
         requires proper { IsProper p }
-        requires range { IsHeldInRange p.held }
         requires private { IsTrue (root_in self.old.heap.view.trail o).is_proto }
         ensures room { IsTrue result ↔ HasSpace self.old.heap.view (add_need self.old.heap.view.trail o p) }
         ensures added { IsTrue result → Steps P.went self.old (Added o p) self.new }

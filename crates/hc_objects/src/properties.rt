@@ -91,7 +91,7 @@ impl<P: Pace> Objects<P> {
         ensures did { OnOk result (Made P.went self.old (Added o p) self.new) }
         ensures moved { OnErr result (Made P.went self.old Moved self.new) }
     {
-        if self.slow(o).is_some() {
+        if self.is_slow(o) {
             return self.add_slow(o, p);
         }
         self.add_to_fast(o, p)
@@ -104,7 +104,7 @@ impl<P: Pace> Objects<P> {
         requires range { IsHeldInRange held }
         ensures did { Made P.went self.old (Wrote o i held) self.new }
     {
-        if self.slow(o).is_some() {
+        if self.is_slow(o) {
             self.write_slow(o, i, held);
             return;
         }

@@ -9,6 +9,7 @@ use hc_table::TableFault;
 use hc_value::Cause;
 use std::test::Fail;
 
+mod changing;
 mod growth;
 
 #[test]

@@ -1,4 +1,4 @@
-use Rattle.std.proofs.Common.{◌≡◌, ◌∙◌, ℕ, false, true, ap, sym, subst, Some}
+use Rattle.std.proofs.Common.{arith, ◌≡◌, ◌∙◌, ℕ, false, true, ap, sym, subst, Some}
 use Rattle.std.specs.Prelude.{IsSome}
 use Rattle.hc_heap.specs.Writes.{ObjectMap}
 use Rattle.hc_heap.specs.Lawful.{LawfulObjectMap}
@@ -56,7 +56,7 @@ set_object_map-requires-clause-lawful g c =
     let number = subst (λ (y : View). c.copy_map-copy.result ≡ y.used.maps) read c.copy_map-copy.ensures.number in
     subst (λ (k : ℕ). LawfulObjectMap x.shape x.trail c.args.object (Some k)) (sym number)
     (grow-lawful c.maps_are_kept.ensures.law c.details_rise.ensures.law c.trees_stay.ensures.law c.unused_says_nothing.ensures.law proto v w c.args.object c.args.map c.args.n c.args.p c.stands.ensures.heap it c.requires.has fast is
-    x c.held_word-word.result c.fill_next.ensures.heap c.fill_next.ensures.fitted c.fill_next.ensures.most c.fill_next.ensures.last c.held_word-word.ensures.form c.held_word-word.ensures.holds)
+    x c.held_word-word.result c.fill_next.ensures.heap c.fill_next.ensures.fitted (omega (arith, c.fill_next.ensures.fitted.more)) c.fill_next.ensures.last c.held_word-word.ensures.form c.held_word-word.ensures.holds)
 
 pub returns-clause-grown : goal.returns-clause-grown
 returns-clause-grown g c =
@@ -74,4 +74,11 @@ returns-clause-grown g c =
     subst (λ (k : ℕ). c.set_object_map.new.self.view ≡ with_write x (ObjectMap c.args.object (Some k))) number c.set_object_map.ensures.view in
     subst (λ (y : View). IsGrownAlone v y c.args.object c.args.map c.args.n c.args.p) (sym view)
     (grown-alone c.maps_are_kept.ensures.law c.details_rise.ensures.law c.trees_stay.ensures.law c.unused_says_nothing.ensures.law proto v w c.args.object c.args.map c.args.n c.args.p c.stands.ensures.heap it c.requires.has fast is
-    x c.held_word-word.result c.fill_next.ensures.heap c.fill_next.ensures.fitted c.fill_next.ensures.most c.fill_next.ensures.last c.held_word-word.ensures.form c.held_word-word.ensures.holds (subst IsHeap view c.set_object_map.ensures.heap))
+    x c.held_word-word.result c.fill_next.ensures.heap c.fill_next.ensures.fitted (omega (arith, c.fill_next.ensures.fitted.more)) c.fill_next.ensures.last c.held_word-word.ensures.form c.held_word-word.ensures.holds (subst IsHeap view c.set_object_map.ensures.heap))
+
+pub returns-clause-went : goal.returns-clause-went
+returns-clause-went g c =
+    let on = g.met.P.Pace.goes_on in
+    on _ _ _ _ _ _ c.proto.ensures.went
+        (on _ _ _ _ _ _ c.copy_map-copy.ensures.went
+        (on _ _ _ _ _ _ c.fill_next.ensures.went c.set_object_map.ensures.went))
