@@ -22,7 +22,7 @@ impl<P: Pace> Tables for Objects<P> {
     }
 
     fn create(&mut self, proto: Option<u32>) -> Result<u32, TableFault> {
-        unreachable!()
+        Objects::create(self, proto)
     }
 
     fn proto(&mut self, o: u32) -> Option<u32> {
