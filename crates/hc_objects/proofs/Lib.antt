@@ -32,3 +32,4 @@ pub mod Slowed
 pub mod Left
 pub mod Composing
 pub mod Restricting
+pub mod Walked

@@ -5,5 +5,6 @@ pub mod Changes
 pub mod Filling
 pub mod Creating
 pub mod Modes
+pub mod Linking
 pub mod Came
 pub mod Laws

@@ -51,7 +51,7 @@ fn move_to_child<P: Pace>(h: &mut Heap<P>, object: u32, map: u32, child: u32, n:
 }
 
 // The field that admits everything.
-fn tagged_detail() -> Detail
+pub(crate) fn tagged_detail() -> Detail
     ensures { result ≡ tagged_field }
 {
     Detail {

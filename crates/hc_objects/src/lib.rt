@@ -14,6 +14,7 @@ mod properties;
 mod slots;
 mod slow;
 mod stores;
+mod walking;
 mod writes;
 
 pub use dictionary::Dictionary;
