@@ -66,7 +66,7 @@ module _ (v : View) (kept : List (Option Dictionary)) (of_null : Option ℕ) (h 
   gate-is g m is gate = some-is (has-map v kept of_null h o there fast).gate g (sym (has-map v kept of_null h o there fast).fast.is_open ∙ ap (gate_in v.trail) (map-is m is) ∙ gate)
 
   -- the map is shared, and isn't locked
-  shared-gate : (root_in v.trail o).is_proto ≡ false → gate_in v.trail (has-map v kept of_null h o there fast).map ≡ Some (gate_with (has-map v kept of_null h o there fast).gate.entries false)
+  pub shared-gate : (root_in v.trail o).is_proto ≡ false → gate_in v.trail (has-map v kept of_null h o there fast).map ≡ Some (gate_with (has-map v kept of_null h o there fast).gate.entries false)
   shared-gate shared =
       let so = has-map v kept of_null h o there fast in
       let locked : so.gate.is_locked ≡ false = (h.tree.maps so.map so.gate so.fast.is_open).unlocked in

@@ -33,3 +33,8 @@ pub mod Left
 pub mod Composing
 pub mod Restricting
 pub mod Walked
+pub mod Rooted
+pub mod Found
+pub mod Likeness
+pub mod Relinked
+pub mod Linked

@@ -171,7 +171,7 @@ walked-none v root m heap tree gate = record {
   heap = heap;
 }
 
-arrays-next : (k : ℕ) → arrays_upto (k + 1) ≡ arrays_upto k + cap_of (k + 1)
+pub arrays-next : (k : ℕ) → arrays_upto (k + 1) ≡ arrays_upto k + cap_of (k + 1)
 arrays-next k = subst (λ (n : ℕ). arrays_upto n ≡ arrays_upto k + cap_of n) (sym (add-one k)) refl
 
 arrays-rise : (k n : ℕ) → k ≤ n → arrays_upto k ≤ arrays_upto n

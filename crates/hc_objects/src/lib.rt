@@ -8,6 +8,7 @@ mod fast;
 mod growing;
 mod held;
 mod leaving;
+mod linking;
 mod objects;
 mod reads;
 mod properties;
