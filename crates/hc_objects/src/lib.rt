@@ -8,9 +8,10 @@ mod fast;
 mod growing;
 mod held;
 mod leaving;
-mod linking;
+
 mod objects;
 mod reads;
+mod relinks;
 mod properties;
 mod slots;
 mod slow;

@@ -5,7 +5,7 @@ use Rattle.hc_objects.specs.Linking.{HasMapFor, IsRelinked}
 use Rattle.hc_objects.specs.State.{AreRoots}
 use Rattle.hc_objects.proofs.Owning.{open-used}
 use Rattle.hc_objects.proofs.Relinked.{marked_view, marked-roots, relink-lawful, relinked}
-use Rattle.hc_objects.proofs.linking.relink.Goals as goal
+use Rattle.hc_objects.proofs.relinks.relink.Goals as goal
 
 pub mark_unstable-requires-clause-handed : goal.mark_unstable-requires-clause-handed
 mark_unstable-requires-clause-handed g c = open-used c.unused_says_nothing.ensures.law c.args.h.now.view c.stands.ensures.heap c.args.map _ c.requires.open

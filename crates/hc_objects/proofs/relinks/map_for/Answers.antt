@@ -1,6 +1,6 @@
 use Rattle.hc_objects.proofs.Found.{open-rooted, map-found}
 use Rattle.hc_objects.proofs.Rooted.{IsRooted, is-rooted}
-use Rattle.hc_objects.proofs.linking.map_for.Goals as goal
+use Rattle.hc_objects.proofs.relinks.map_for.Goals as goal
 
 pub walk-requires-clause-map : goal.walk-requires-clause-map
 walk-requires-clause-map g c =
