@@ -62,19 +62,19 @@ module _ (v : View) (kept : List (Option Dictionary)) (of_null : Option ℕ) (h 
   pub map-is : (m : ℕ) → map_in v.trail o ≡ Some m → (has-map v kept of_null h o there fast).map ≡ m
   map-is m is = some-is (has-map v kept of_null h o there fast).map m (sym (has-map v kept of_null h o there fast).is_map ∙ is)
 
-  gate-is : (g : GateWord) (m : ℕ) → map_in v.trail o ≡ Some m → gate_in v.trail m ≡ Some g → (has-map v kept of_null h o there fast).gate ≡ g
+  pub gate-is : (g : GateWord) (m : ℕ) → map_in v.trail o ≡ Some m → gate_in v.trail m ≡ Some g → (has-map v kept of_null h o there fast).gate ≡ g
   gate-is g m is gate = some-is (has-map v kept of_null h o there fast).gate g (sym (has-map v kept of_null h o there fast).fast.is_open ∙ ap (gate_in v.trail) (map-is m is) ∙ gate)
 
-  -- the map is shared, and isn't locked
-  pub shared-gate : (root_in v.trail o).is_proto ≡ false → gate_in v.trail (has-map v kept of_null h o there fast).map ≡ Some (gate_with (has-map v kept of_null h o there fast).gate.entries false)
-  shared-gate shared =
+  -- the map is private exactly where the object is or was a prototype, and isn't locked
+  pub its-gate : (own : Bool) → (root_in v.trail o).is_proto ≡ own → gate_in v.trail (has-map v kept of_null h o there fast).map ≡ Some (gate_with (has-map v kept of_null h o there fast).gate.entries own)
+  its-gate own is =
       let so = has-map v kept of_null h o there fast in
       let locked : so.gate.is_locked ≡ false = (h.tree.maps so.map so.gate so.fast.is_open).unlocked in
       so.fast.is_open
-      ∙ ap (λ (b : Bool). let x : GateWord = record { entries = so.gate.entries; is_private = b; is_locked = so.gate.is_locked } in Some x) (so.fast.private ∙ shared)
-      ∙ ap (λ (b : Bool). let x : GateWord = record { entries = so.gate.entries; is_private = false; is_locked = b } in Some x) locked
+      ∙ ap (λ (b : Bool). let x : GateWord = record { entries = so.gate.entries; is_private = b; is_locked = so.gate.is_locked } in Some x) (so.fast.private ∙ is)
+      ∙ ap (λ (b : Bool). let x : GateWord = record { entries = so.gate.entries; is_private = own; is_locked = b } in Some x) locked
 
-  few-entries : length (props_at (world v.trail kept) o) < MAX_FAST → (has-map v kept of_null h o there fast).gate.entries < MAX_FAST
+  pub few-entries : length (props_at (world v.trail kept) o) < MAX_FAST → (has-map v kept of_null h o there fast).gate.entries < MAX_FAST
   few-entries few =
       let so = has-map v kept of_null h o there fast in
       let count : length (props_at (world v.trail kept) o) ≡ so.gate.entries =
@@ -84,7 +84,7 @@ module _ (v : View) (kept : List (Option Dictionary)) (of_null : Option ℕ) (h 
       omega (arith, few, count)
 
   -- no entry has the name
-  lacks-name : (name : ℕ) → place_of (props_at (world v.trail kept) o) name ≡ None → LacksName v.trail (has-map v kept of_null h o there fast).map (has-map v kept of_null h o there fast).gate.entries name
+  pub lacks-name : (name : ℕ) → place_of (props_at (world v.trail kept) o) name ≡ None → LacksName v.trail (has-map v kept of_null h o there fast).map (has-map v kept of_null h o there fast).gate.entries name
   lacks-name name absent k lt =
       let so = has-map v kept of_null h o there fast in
       let is : place_of (listed (prop_in v.trail o so.map) so.gate.entries) name ≡ None =
@@ -104,7 +104,7 @@ module _ (v : View) (kept : List (Option Dictionary)) (of_null : Option ℕ) (h 
       let so = has-map v kept of_null h o there fast in
       record {
         few = few-entries few;
-        is_open = shared-gate shared;
+        is_open = its-gate false shared;
         holds = record { capacity = so.fast.holds.capacity; slots = so.fast.holds.slots };
         lacks = lacks-name name absent;
         handed = omega (arith, there, h.items);
@@ -190,9 +190,10 @@ module _ {P : Type 0} (a b : ObjectsState P) (o : ℕ) (p : Prop) (same : a ≡ 
     -- there was room exactly where the need says so, no more was handed out, and no object became a prototype
     module _ (done : Bool) where
       pub call-room : (IsTrue done ↔ MayGrowBy y o m g.entries (key_of p)) → IsTrue done ↔ HasSpace b.heap.view (add_need b.heap.view.trail o p)
-      call-room room = subst (λ (s : ObjectsState P). IsTrue done ↔ HasSpace s.heap.view (add_need s.heap.view.trail o p)) same
-          ( λ yes. space-of a.heap.view o m g p is gate-there shared-there (subst (λ (v : View). MayGrowBy v o m g.entries (key_of p)) (again ∙ read) (room.0 yes))
-          , λ space. room.1 (subst (λ (v : View). MayGrowBy v o m g.entries (key_of p)) (sym (again ∙ read)) (may-of a.heap.view o m g p is gate-there shared-there space)) )
+      call-room room = subst (λ (s : ObjectsState P). IsTrue done ↔ HasSpace s.heap.view (add_need s.heap.view.trail o p)) same (
+        λ yes. space-of a.heap.view o m g p is gate-there shared-there (subst (λ (v : View). MayGrowBy v o m g.entries (key_of p)) (again ∙ read) (room.0 yes)),
+        λ space. room.1 (subst (λ (v : View). MayGrowBy v o m g.entries (key_of p)) (sym (again ∙ read)) (may-of a.heap.view o m g p is gate-there shared-there space)),
+      )
 
       pub call-needs : (IsTrue done → x.used ≡ with_growth y.trail o m g.entries (key_of p) y.used) → (done ≡ false → x ≡ y) → IsWithin (add_need b.heap.view.trail o p) b.heap.view.used x.used
       call-needs grown still = subst (λ (s : ObjectsState P). IsWithin (add_need s.heap.view.trail o p) s.heap.view.used x.used) same (by done grown still)

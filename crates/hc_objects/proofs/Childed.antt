@@ -42,19 +42,19 @@ pub record IsChilded (v w : View) (m n c : ℕ) (key : Key) : Type 0 where
   pub tree : IsTree w.trail
   pub heap : IsHeap w
 
-map-by : (used : Shape) (q : Option ℕ) (o : ℕ) (t : Trail) (w : Write) → MakesMap used q t w → map_in (w ∷ t) o ≡ map_in t o
+pub map-by : (used : Shape) (q : Option ℕ) (o : ℕ) (t : Trail) (w : Write) → MakesMap used q t w → map_in (w ∷ t) o ≡ map_in t o
 map-by used q o t (ObjectMap i h) e = absurd e
 map-by used q o t _ e = refl
 
-store-by : (used : Shape) (q : Option ℕ) (o : ℕ) (t : Trail) (w : Write) → MakesMap used q t w → store_in (w ∷ t) o ≡ store_in t o
+pub store-by : (used : Shape) (q : Option ℕ) (o : ℕ) (t : Trail) (w : Write) → MakesMap used q t w → store_in (w ∷ t) o ≡ store_in t o
 store-by used q o t (Store i h) e = absurd e
 store-by used q o t _ e = refl
 
-slot-by : (used : Shape) (q : Option ℕ) (s : ℕ) (t : Trail) (w : Write) → MakesMap used q t w → slot_in (w ∷ t) s ≡ slot_in t s
+pub slot-by : (used : Shape) (q : Option ℕ) (s : ℕ) (t : Trail) (w : Write) → MakesMap used q t w → slot_in (w ∷ t) s ≡ slot_in t s
 slot-by used q s t (Slot i h) e = absurd e
 slot-by used q s t _ e = refl
 
-root-by : (used : Shape) (q : Option ℕ) (o : ℕ) (t : Trail) (w : Write) → MakesMap used q t w → root_in (w ∷ t) o ≡ root_in t o
+pub root-by : (used : Shape) (q : Option ℕ) (o : ℕ) (t : Trail) (w : Write) → MakesMap used q t w → root_in (w ∷ t) o ≡ root_in t o
 root-by used q o t (Root i h) e = absurd e
 root-by used q o t _ e = refl
 

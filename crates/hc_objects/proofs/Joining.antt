@@ -64,32 +64,32 @@ grown-later a b after m c n g key is count grown =
 -- What filling leaves as it was
 
 module _ (old : View) (o : ℕ) where
-  gate-by : (m : ℕ) (t : Trail) (w : Write) → FillsStore old o t w → gate_in (w ∷ t) m ≡ gate_in t m
+  pub gate-by : (m : ℕ) (t : Trail) (w : Write) → FillsStore old o t w → gate_in (w ∷ t) m ≡ gate_in t m
   gate-by m t (Store p v) e = refl
   gate-by m t (Slot s v) e = refl
   gate-by m t _ e = absurd e
 
-  bits-by : (m : ℕ) (t : Trail) (w : Write) → FillsStore old o t w → bits_in (w ∷ t) m ≡ bits_in t m
+  pub bits-by : (m : ℕ) (t : Trail) (w : Write) → FillsStore old o t w → bits_in (w ∷ t) m ≡ bits_in t m
   bits-by m t (Store p v) e = refl
   bits-by m t (Slot s v) e = refl
   bits-by m t _ e = absurd e
 
-  map-by : (p : ℕ) (t : Trail) (w : Write) → FillsStore old o t w → map_in (w ∷ t) p ≡ map_in t p
+  pub map-by : (p : ℕ) (t : Trail) (w : Write) → FillsStore old o t w → map_in (w ∷ t) p ≡ map_in t p
   map-by p t (Store q v) e = refl
   map-by p t (Slot s v) e = refl
   map-by p t _ e = absurd e
 
-  root-by : (p : ℕ) (t : Trail) (w : Write) → FillsStore old o t w → root_in (w ∷ t) p ≡ root_in t p
+  pub root-by : (p : ℕ) (t : Trail) (w : Write) → FillsStore old o t w → root_in (w ∷ t) p ≡ root_in t p
   root-by p t (Store q v) e = refl
   root-by p t (Slot s v) e = refl
   root-by p t _ e = absurd e
 
-  tree-by : (first : Trail) (t : Trail) (w : Write) → FillsStore old o t w → TreeIsSame first t → TreeIsSame first (w ∷ t)
+  pub tree-by : (first : Trail) (t : Trail) (w : Write) → FillsStore old o t w → TreeIsSame first t → TreeIsSame first (w ∷ t)
   tree-by first t (Store q v) e same = record { links = same.links; gates = same.gates; lives = same.lives; roots = same.roots }
   tree-by first t (Slot s v) e same = record { links = same.links; gates = same.gates; lives = same.lives; roots = same.roots }
   tree-by first t _ e same = absurd e
 
-  touches-by : (t : Trail) (w : Write) → FillsStore old o t w → Touches old o t w
+  pub touches-by : (t : Trail) (w : Write) → FillsStore old o t w → Touches old o t w
   touches-by t (Store q v) e = e
   touches-by t (Slot s v) e = e
   touches-by t _ e = absurd e

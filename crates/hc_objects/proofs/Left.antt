@@ -63,7 +63,7 @@ pub proper-at : (f : ℕ → Prop) (n k : ℕ) → AllByRecursion IsProper (list
 proper-at f n k all kn = all-at IsProper (listed f n) k (f k) all (slice_get-listed f n k kn)
 
 -- an object that stays the same
-set-object : (w : World) (o : ℕ) (x : Object) → o < length w → object w o ≡ x → set w o x ≡ w
+pub set-object : (w : World) (o : ℕ) (x : Object) → o < length w → object w o ≡ x → set w o x ≡ w
 set-object [] o x lt is = refl
 set-object (y ∷ ys) zero x lt is = ap (λ (z : Object). z ∷ ys) (sym is)
 set-object (y ∷ ys) (suc o) x lt is = ap (λ (zs : World). y ∷ zs) (set-object ys o x (omega arith) is)

@@ -25,7 +25,7 @@ use Rattle.hc_objects.specs.State.{ObjectsState, AreHandedOut, AreRoots, IsFast,
 use Rattle.hc_objects.specs.Changes.{IsWell, KeptBut, SlotsStay}
 use Rattle.hc_objects.specs.Linking.{IsRelinked, shared_need}
 use Rattle.hc_objects.specs.Modes.{IsWithin, both, link_need, need_by, walk_need}
-use Rattle.hc_objects.proofs.Adding.{shared-gate, map-is}
+use Rattle.hc_objects.proofs.Adding.{its-gate, map-is}
 use Rattle.hc_objects.proofs.Likeness.{like-holds, like-object}
 use Rattle.hc_objects.proofs.Needing.{within-same}
 use Rattle.hc_objects.proofs.Operations.{object-fast}
@@ -60,7 +60,7 @@ module _ (v : View) (kept : List (Option Dictionary)) (null : Option ℕ) (h : I
   linkable-here =
       let so = has-map v kept null h o there fast in
       record {
-        is_open = shared-gate v kept null h o there fast shared;
+        is_open = its-gate v kept null h o there fast false shared;
         holds = record { capacity = so.fast.holds.capacity; slots = so.fast.holds.slots };
         handed = omega (arith, there, h.items);
       }

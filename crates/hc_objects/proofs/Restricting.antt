@@ -1,5 +1,5 @@
 -- A list whose items are changed one after another.
-use Rattle.std.proofs.Common.{◌≡◌, ℕ, zero, suc, ◌+◌, ◌<◌, List, [], ◌∷◌, Option, Some, length, map, set, refl, sym, ap, ◌∙◌, add-one}
+use Rattle.std.proofs.Common.{◌≡◌, ℕ, zero, suc, ◌+◌, List, [], ◌∷◌, Some, length, map, set, refl, sym, ap, ◌∙◌, add-one}
 use Rattle.std.specs.Prelude.{slice_get}
 
 -- the first so many items are changed

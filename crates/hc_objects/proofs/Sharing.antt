@@ -103,6 +103,10 @@ module _ (t : Trail) (of_null : Option ℕ) (tree : IsTree t) (roots : AreRoots 
             entries = ap (λ (x : GateWord). x.entries) gates;
           })
 
+  -- a shared map that has an entry is the child of a shared one
+  pub is-under : (m : ℕ) (g : GateWord) → gate_in t m ≡ Some g → g.is_private ≡ false → 0 < g.entries → IsUnder t m g
+  is-under m g is shared some = up m g is shared (IsUnder t m g) (λ top none. absurd (omega (arith, none, some))) (λ under. under)
+
   -- shared maps with one prototype and the same keys are one
   pub one-map : (n m c : ℕ) (g h : GateWord) → gate_in t m ≡ Some g → gate_in t c ≡ Some h → g.is_private ≡ false → h.is_private ≡ false → g.entries ≡ n → h.entries ≡ n
       → prototype_in t m ≡ prototype_in t c → ((k : ℕ) → k < n → key_at t m k ≡ key_at t c k) → m ≡ c

@@ -1,6 +1,6 @@
 -- An object as the objects' state shows it, slow or fast.
-use Rattle.std.proofs.Common.{◌≡◌, ℕ, zero, suc, ◌<◌, List, [], ◌∷◌, length, get_or, Option, Some, None, sym, ap, ◌∙◌, subst, arith}
-use Rattle.std.specs.Prelude.{slice_get}
+use Rattle.std.proofs.Common.{◌≡◌, ℕ, zero, suc, ◌<◌, List, [], ◌∷◌, length, get_or, Option, Some, None, refl, sym, ap, ◌∙◌, subst, arith}
+use Rattle.std.specs.Prelude.{IsSome, ◌↔◌, slice_get}
 use Rattle.std.specs.List.{AllByRecursion}
 use Rattle.hc_value.specs.declared.prop.Prop.{Prop}
 use Rattle.hc_heap.specs.Readings.{map_in}
@@ -47,3 +47,17 @@ module _ {P : Type 0} (a b : ObjectsState P) (o : ℕ) (same : a ≡ b) (lt : o 
   pub proper-shown : (i : ℕ) (p : Prop) → IsObjects a.heap.view a.kept a.of_null → slice_get (props_at (world_of b) o) i ≡ Some p → IsProper p
   proper-shown i p h is =
       all-at IsProper (props_at (world_of b) o) i p (subst (λ (s : ObjectsState P). AllByRecursion IsProper (props_at (world_of s) o)) same (h.sound.proper o)) is
+
+  -- a slow object has no map
+  pub slow-unmapped : IsObjects a.heap.view a.kept a.of_null → (d : Dictionary) → kept_of a.kept o ≡ Some d → map_in a.heap.view.trail o ≡ None
+  slow-unmapped h d is = subst (λ (i : Option Dictionary). IsKeptSo a.heap.view.trail o i) is (h.each o within)
+
+  -- an object has no map exactly where it is slow
+  pub unmapped-slow : IsObjects a.heap.view a.kept a.of_null → (h : Option ℕ) → h ≡ map_in a.heap.view.trail o → (h ≡ None) ↔ IsSome (kept_of b.kept o)
+  unmapped-slow h m is = subst (λ (s : ObjectsState P). (m ≡ None) ↔ IsSome (kept_of s.kept o)) same (by (kept_of a.kept o) refl)
+    where
+      by : (i : Option Dictionary) → kept_of a.kept o ≡ i → (m ≡ None) ↔ IsSome i
+      by (Some d) e = (λ none. refl, λ slow. is ∙ slow-unmapped h d e)
+      by None e =
+          let has : HasMap a.heap.view.trail o = subst (λ (i : Option Dictionary). IsKeptSo a.heap.view.trail o i) e (h.each o within) in
+          (λ none. let f : None ≡ Some has.map = sym none ∙ is ∙ has.is_map in let g : ⊥ = cc in absurd g, λ slow. let g : ⊥ = cc in absurd g)

@@ -50,7 +50,7 @@ gate-by : (used : Shape) (p : Option ℕ) (m : ℕ) → m < used.maps → (t : T
 gate-by used p m lt t (Gate i g) e = cond-other i m (Some g) (gate_in t m) (λ is. omega (arith, lt, e, is))
 gate-by used p m lt t _ e = refl
 
-bits-by : (used : Shape) (m : ℕ) (t : Trail) (w : Write) → MakesMap used None t w → bits_in (w ∷ t) m ≡ bits_in t m
+pub bits-by : (used : Shape) (m : ℕ) (t : Trail) (w : Write) → MakesMap used None t w → bits_in (w ∷ t) m ≡ bits_in t m
 bits-by used m t (Bits i b) e = let n : None ≡ Some i = e.0 in let f : ⊥ = cc in absurd f
 bits-by used m t _ e = refl
 

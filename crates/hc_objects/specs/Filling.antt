@@ -13,7 +13,6 @@ use Rattle.hc_heap.specs.Readings.{map_in, root_in, store_in}
 use Rattle.hc_heap.specs.Lawful.{IsFormOf}
 use Rattle.hc_heap.specs.Kept.{Adds}
 use Rattle.hc_heap.specs.States.{View, HasRoom}
-use Rattle.hc_descs.specs.Entries.{count_of}
 use Rattle.hc_tree.specs.Growth.{child_need, live_child}
 use Rattle.hc_tree.specs.Needs.{HasSpace, with_need}
 use Rattle.hc_tree.specs.Tree.{tagged_field}

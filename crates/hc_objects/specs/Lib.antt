@@ -5,6 +5,8 @@ pub mod Changes
 pub mod Filling
 pub mod Creating
 pub mod Modes
+pub mod Privates
 pub mod Linking
 pub mod Came
+pub mod Becoming
 pub mod Laws

@@ -6,6 +6,8 @@ use Rattle.hc_layout.specs.declared.shape.Shape.{Shape}
 use Rattle.hc_value.specs.declared.key.Key.{Key}
 use Rattle.hc_value.specs.declared.prop.Prop.{Prop}
 use Rattle.hc_value.specs.declared.reply.Cause.{Cause}
+use Rattle.hc_value.specs.declared.reply.Mode.{Mode}
+use Rattle.hc_value.specs.declared.reply.Mode.TheVariants.{Fast, Slow}
 use Rattle.hc_value.specs.declared.reply.Cause.TheVariants.{Deleted, Many, Reconfigured, Space}
 use Rattle.hc_heap.specs.Writes.{Trail}
 use Rattle.hc_heap.specs.Readings.{map_in, root_in, store_in}
@@ -92,6 +94,14 @@ pub record IsWithin (need : Need) (old new : Shape) : Type 0 where
   pub slots : new.slots ≤ old.slots + need.slots
 
 -- Modes
+
+-- how an object is kept
+abbrev pub mode_by : Option Cause → ℕ → Mode
+mode_by None n = Fast n
+mode_by (Some cause) n = Slow cause
+
+abbrev pub mode_of : Trail → List (Option Dictionary) → ℕ → Mode
+mode_of t kept o = mode_by (cause_in kept o) (length (props_at (world t kept) o))
 
 -- a fast object stays fast exactly where there is room, and is slow for want of space else
 pub record StaysFast (room : Type 0) (now : Option Cause) : Type 0 where

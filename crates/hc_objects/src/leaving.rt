@@ -1,11 +1,11 @@
 //! An object that leaves its map for a dictionary.
-ghost use Rattle.std.specs.Prelude.{ℕ, ◌≡◌, ◌<◌, ◌≤◌, None, Some, IfOk, OnOk, OnErr, length};
+ghost use Rattle.std.specs.Prelude.{ℕ, ◌≡◌, ◌≢◌, ◌<◌, ◌≤◌, None, Some, IfOk, OnOk, OnErr, length};
 ghost use Rattle.std.specs.List.{AllByRecursion};
 ghost use Rattle.hc_descs.specs.Entries.{count_of};
 ghost use Rattle.hc_heap.specs.Readings.{map_in, root_in};
 ghost use Rattle.hc_table.specs.Attributes.{IsProper};
 ghost use Rattle.hc_table.specs.Changes.{Moved};
-ghost use Rattle.hc_table.specs.World.{HaveDistinctNames};
+ghost use Rattle.hc_table.specs.World.{HaveDistinctNames, object};
 ghost use Rattle.hc_tree.specs.Growth.{IsUnmoved};
 ghost use Rattle.hc_objects.specs.Changes.{KeptBut};
 ghost use Rattle.hc_objects.specs.Meaning.{cause_in, dictionary_object, fast_props, kept_of, object_shown};
@@ -79,6 +79,39 @@ fn dictionary_of<P: Pace>(
 }
 
 impl<P: Pace> Objects<P> {
+    // The dictionary that a fast object makes, for a cause.
+    pub(crate) fn dictionary(&mut self, o: u32, cause: Cause) -> Result<Dictionary, Memory>
+        requires object { o < length (world_of self.old) }
+        requires fast { kept_of self.old.kept o ≡ None }
+        ensures value { IfOk result (λ d. dictionary_object d ≡ object (world_of self.old) o) }
+        ensures cause { IfOk result (λ d. d.cause ≡ cause) }
+        ensures still { IsStill self.old self.new }
+    {
+        dictionary_of(&mut self.heap, self.alloc, o, cause)
+    }
+
+    // Has a fast object be slow from now on, with the dictionary that it makes.
+    pub(crate) fn leave_with(&mut self, o: u32, slow: Dictionary)
+        requires object { o < length (world_of self.old) }
+        requires fast { kept_of self.old.kept o ≡ None }
+        requires value { dictionary_object slow ≡ object (world_of self.old) o }
+        ensures moved { Steps P.went self.old Moved self.new }
+        ensures cause { cause_in self.new.kept o ≡ Some slow.cause }
+        ensures null { self.new.of_null ≡ self.old.of_null }
+        ensures others { KeptBut o self.old.kept self.new.kept }
+        ensures used { self.new.heap.view.used ≡ self.old.heap.view.used }
+        ensures roots { (q : ℕ) → root_in self.new.heap.view.trail q ≡ root_in self.old.heap.view.trail q }
+        ensures maps { (q : ℕ) → q ≢ o → map_in self.new.heap.view.trail q ≡ map_in self.old.heap.view.trail q }
+    {
+        maps_are_kept();
+        details_rise();
+        trees_stay();
+        unused_says_nothing();
+        let map = fast::map_of(&mut self.heap, o);
+        leave_map(&mut self.heap, o, map);
+        self.kept[o as usize] = Some(slow);
+    }
+
     // Has a fast object be slow from now on, for a cause. For want of memory alone nothing is stored.
     pub(crate) fn leave(&mut self, o: u32, cause: Cause) -> Result<(), Memory>
         requires object { o < length (world_of self.old) }
@@ -90,15 +123,11 @@ impl<P: Pace> Objects<P> {
         ensures others { KeptBut o self.old.kept self.new.kept }
         ensures used { self.new.heap.view.used ≡ self.old.heap.view.used }
         ensures protos { (p : ℕ) → (root_in self.new.heap.view.trail p).is_proto ≡ (root_in self.old.heap.view.trail p).is_proto }
+        ensures roots { (q : ℕ) → root_in self.new.heap.view.trail q ≡ root_in self.old.heap.view.trail q }
+        ensures maps { (q : ℕ) → q ≢ o → map_in self.new.heap.view.trail q ≡ map_in self.old.heap.view.trail q }
     {
-        maps_are_kept();
-        details_rise();
-        trees_stay();
-        unused_says_nothing();
-        let slow = dictionary_of(&mut self.heap, self.alloc, o, cause)?;
-        let map = fast::map_of(&mut self.heap, o);
-        leave_map(&mut self.heap, o, map);
-        self.kept[o as usize] = Some(slow);
+        let slow = self.dictionary(o, cause)?;
+        self.leave_with(o, slow);
         Ok(())
     }
 }

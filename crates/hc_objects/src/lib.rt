@@ -1,6 +1,8 @@
 //! Fast and slow objects over the tree of maps.
 #![tactic(auto)]
 
+mod becoming;
+mod changing;
 mod creates;
 mod dictionary;
 mod entries;
@@ -8,14 +10,17 @@ mod fast;
 mod growing;
 mod held;
 mod leaving;
-
 mod objects;
+mod privates;
+mod properties;
 mod reads;
 mod relinks;
-mod properties;
+mod removing;
+mod shapes;
 mod slots;
 mod slow;
 mod stores;
+mod tables;
 mod walking;
 mod writes;
 

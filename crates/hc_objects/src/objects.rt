@@ -2,10 +2,11 @@
 ghost use Rattle.std.specs.Prelude.{◌≡◌, ◌<◌, ◌↔◌, None, Some, [], length, IfOk, IsSome};
 ghost use Rattle.hc_board.specs.States.{TableId, counted};
 ghost use Rattle.hc_heap.specs.Readings.{map_in};
-ghost use Rattle.hc_heap.specs.States.{Goes, no_items};
+ghost use Rattle.hc_heap.specs.States.{no_items};
 ghost use Rattle.hc_layout.specs.Shape.{IsShape, items_of};
 ghost use Rattle.hc_objects.specs.Meaning.{kept_of};
 ghost use Rattle.hc_objects.specs.State.{IsObjects};
+ghost use Rattle.hc_objects.specs.Came.{IsStill, world_of};
 
 use crate::dictionary::Dictionary;
 use hc_heap::{Heap, Pace};
@@ -83,12 +84,10 @@ impl<P: Pace> Objects<P> {
 
     /// The map of an object; none exactly where the object is slow.
     pub fn map_of(&mut self, o: u32) -> Option<u32>
-        requires there { o < length self.old.kept }
+        requires there { o < length (world_of self.old) }
         ensures value { result ≡ map_in self.old.heap.view.trail o }
         ensures slow { (result ≡ None) ↔ IsSome (kept_of self.old.kept o) }
-        ensures same { self.new ≡ record self.old { heap = record self.old.heap { desk = self.new.heap.desk } } }
-        ensures goes { Goes self.old.heap.desk self.new.heap.desk }
-        ensures went { P.went self.old.heap.pace self.old.heap.desk.trail self.new.heap.desk.trail self.new.heap.pace }
+        ensures still { IsStill self.old self.new }
     {
         self.heap.object_map(o)
     }

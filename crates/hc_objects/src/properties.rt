@@ -29,30 +29,30 @@ impl<P: Pace> Objects<P> {
 
     // Gives a fast object that has few properties a new last one. The answer is whether there was room; where there was
     // none, nothing is stored.
-    fn grow(&mut self, o: u32, p: Prop) -> bool
+    fn grow(&mut self, o: u32, p: &Prop) -> bool
         requires object { o < length (world_of self.old) }
         requires fast { kept_of self.old.kept o ≡ None }
-        requires absent { place_of (props_at (world_of self.old) o) p.name ≡ None }
+        requires absent { place_of (props_at (world_of self.old) o) p.now.name ≡ None }
         requires few { length (props_at (world_of self.old) o) < MAX_FAST }
         requires extensible { (object (world_of self.old) o).extensible ≡ true }
-        requires proper { IsProper p }
-        ensures room { IsTrue result ↔ HasSpace self.old.heap.view (add_need self.old.heap.view.trail o p) }
-        ensures added { IsTrue result → Made P.went self.old (Added o p) self.new }
+        requires proper { IsProper p.now }
+        ensures room { IsTrue result ↔ HasSpace self.old.heap.view (add_need self.old.heap.view.trail o p.now) }
+        ensures added { IsTrue result → Made P.went self.old (Added o p.now) self.new }
         ensures still { result ≡ false → IsStill self.old self.new }
     {
         if self.is_proto(o) {
-            return self.add_fast(o, p);
+            return self.add_private(o, *p);
         }
-        self.add_fast(o, p)
+        self.add_fast(o, *p)
     }
 
     // Has a fast object be slow, for a cause, and get a new last property.
-    fn leave_and_add(&mut self, o: u32, cause: Cause, p: Prop) -> Result<(), Memory>
+    fn leave_and_add(&mut self, o: u32, cause: Cause, p: &Prop) -> Result<(), Memory>
         requires object { o < length (world_of self.old) }
         requires fast { kept_of self.old.kept o ≡ None }
-        requires absent { place_of (props_at (world_of self.old) o) p.name ≡ None }
-        requires proper { IsProper p }
-        ensures added { OnOk result (Steps P.went self.old (Added o p) self.new) }
+        requires absent { place_of (props_at (world_of self.old) o) p.now.name ≡ None }
+        requires proper { IsProper p.now }
+        ensures added { OnOk result (Steps P.went self.old (Added o p.now) self.new) }
         ensures moved { OnErr result (Made P.went self.old Moved self.new) }
         ensures cause { OnOk result (cause_in self.new.kept o ≡ Some cause) }
         ensures others { KeptBut o self.old.kept self.new.kept }
@@ -60,7 +60,7 @@ impl<P: Pace> Objects<P> {
         ensures protos { (q : ℕ) → (root_in self.new.heap.view.trail q).is_proto ≡ (root_in self.old.heap.view.trail q).is_proto }
     {
         self.leave(o, cause)?;
-        self.add_slow(o, p)
+        self.add_slow(o, *p)
     }
 
     // Gives a fast object a new last property. It goes slow where it has as many as it can, or where there is no room.
@@ -74,12 +74,12 @@ impl<P: Pace> Objects<P> {
         ensures moved { OnErr result (Made P.went self.old Moved self.new) }
     {
         if self.len(o) >= MAX_FAST {
-            return self.leave_and_add(o, Cause::Many, p);
+            return self.leave_and_add(o, Cause::Many, &p);
         }
-        if self.grow(o, p) {
+        if self.grow(o, &p) {
             return Ok(());
         }
-        self.leave_and_add(o, Cause::Space, p)
+        self.leave_and_add(o, Cause::Space, &p)
     }
 
     // Gives an extensible object a new last property.

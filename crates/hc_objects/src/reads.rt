@@ -1,5 +1,5 @@
 //! Reads of objects. They leave all as it was, but for loads.
-ghost use Rattle.std.specs.Prelude.{◌≡◌, ◌<◌, Some, length, slice_get};
+ghost use Rattle.std.specs.Prelude.{◌≡◌, ◌<◌, ◌≤◌, Some, length, slice_get};
 ghost use Rattle.std.specs.Option.{option_copied};
 ghost use Rattle.hc_table.specs.Attributes.{IsProper};
 ghost use Rattle.hc_table.specs.World.{IsWorld, object, props_at, place_of};
@@ -16,6 +16,7 @@ impl<P: Pace> Objects<P> {
     /// How many objects there are.
     pub fn count(&self) -> u32
         ensures count { result ≡ length (world_of self.now) }
+        ensures room { length (world_of self.now) ≤ self.now.heap.view.shape.objects }
         ensures sound { IsWorld (world_of self.now) }
     {
         self.kept.len() as u32

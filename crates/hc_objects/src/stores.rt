@@ -1,5 +1,5 @@
 //! Slots for one property more.
-ghost use Rattle.std.specs.Prelude.{◌≡◌, ◌<◌, ◌≤◌, IsTrue, IfSome};
+ghost use Rattle.std.specs.Prelude.{◌≡◌, ◌+◌, ◌<◌, ◌≤◌, IsTrue, IfSome};
 ghost use Rattle.hc_layout.specs.declared.capacity.TheConstants.{MAX_FAST};
 ghost use Rattle.hc_layout.specs.declared.shape.Region.TheVariants.{Slots};
 ghost use Rattle.hc_heap.specs.Readings.{bits_in, map_in, store_in};
@@ -32,6 +32,7 @@ fn make_room<P: Pace>(h: &mut Heap<P>, object: u32, n: u32)
     requires unstable { IfSome (map_in h.old.view.trail object) (λ m. IsTrue (bits_in h.old.view.trail m).unstable) }
     requires room { HasRoom h.old.view Slots (slots_need n (store_in h.old.view.trail object).capacity) }
     ensures fitted { IsFitted h.old.view h.new.view object n }
+    ensures most { h.new.view.used.slots ≤ h.old.view.used.slots + slots_need n (store_in h.old.view.trail object).capacity }
     ensures heap { IsHeap h.new.view }
     ensures goes { Goes h.old.desk h.new.desk }
     ensures went { P.went h.old.pace h.old.desk.trail h.new.desk.trail h.new.pace }
@@ -53,6 +54,7 @@ pub(crate) fn fill_next<P: Pace>(h: &mut Heap<P>, object: u32, n: u32, word: u64
     requires unstable { IfSome (map_in h.old.view.trail object) (λ m. IsTrue (bits_in h.old.view.trail m).unstable) }
     requires room { HasRoom h.old.view Slots (slots_need n (store_in h.old.view.trail object).capacity) }
     ensures fitted { IsFitted h.old.view h.new.view object n }
+    ensures most { h.new.view.used.slots ≤ h.old.view.used.slots + slots_need n (store_in h.old.view.trail object).capacity }
     ensures last { slot_word h.new.view.trail object n ≡ word }
     ensures heap { IsHeap h.new.view }
     ensures goes { Goes h.old.desk h.new.desk }

@@ -9,6 +9,8 @@ use hc_table::TableFault;
 use hc_value::Cause;
 use std::test::Fail;
 
+mod growth;
+
 #[test]
 fn there_is_no_object_at_first(rt: HostRuntime) -> Result<(), Fail> {
     let objects = Objects::new(rt.alloc(), Shape::small(), Free)?;

@@ -3,37 +3,53 @@ ghost use Rattle.hc_layout.specs.Shape.{IsShape};
 ghost use Rattle.hc_session.specs.State.{IsBuilt, HasNumbers, Does};
 
 use crate::perform::perform;
+use hc_board::Writer;
+use hc_heap::Pace;
 use hc_layout::Shape;
+use hc_objects::Objects;
 use hc_script::Command;
-use hc_table::Plain;
 use hc_value::{Memory, Reply};
 use std::alloc::Global;
 use std::marker::Model;
 
 /// The pace of a session whose jobs read where its script says.
-#[derive(Clone, Copy, Debug, PartialEq, Eq)]
+#[derive(Clone, Copy, Debug, PartialEq, Eq, Drop)]
 pub struct Scripted;
+
+impl Pace for Scripted {
+    ghost use Rattle.std.specs.Prelude.{⊤};
+
+    ghost fits = { λ _ _. ⊤ };
+
+    ghost went = { λ _ _ _ _. ⊤ };
+
+    fn wrote(&mut self, _writer: &mut Writer) {}
+
+    ghost stays = { λ _ _. tt };
+
+    ghost goes_on = { λ _ _ _ _ _ _ _ _. tt };
+}
 
 /// The objects, and all else that commands change, under a pace.
 #[derive(Drop)]
-pub struct Session<P: Drop> {
-    tables: Plain,
-    pace: P,
+pub struct Session<P: Pace> {
+    objects: Objects<P>,
     begun: bool,
     alloc: Global,
 }
 
-impl<P: Drop> Model for Session<P> {
+impl<P: Pace> Model for Session<P> {
     ghost use Rattle.hc_session.specs.State.{Standing};
 
     ghost Value = { Standing };
 
     ghost use Rattle.std.specs.Prelude.{not};
-    ghost use Rattle.hc_session.specs.Fresh.{IsFreshOnlyEmpty};
+    ghost use Rattle.hc_objects.specs.Came.{world_of};
+    ghost use Rattle.hc_session.specs.Fresh.{IsSession};
 
-    ghost view = { λ s. record { state = record { world = s.tables.world; limit = s.tables.limit }; fresh = not s.begun } };
+    ghost view = { λ s. record { state = record { world = world_of s.objects; limit = s.objects.heap.view.shape.objects }; fresh = not s.begun } };
 
-    ghost invariant = { λ s. IsFreshOnlyEmpty s.tables.world s.begun };
+    ghost invariant = { λ s. IsSession (record { world = world_of s.objects; limit = s.objects.heap.view.shape.objects }) s.begun };
 }
 
 impl Session<Scripted> {
@@ -45,15 +61,14 @@ impl Session<Scripted> {
         ensures fresh { IfOk result (λ session. session.fresh ≡ true) }
     {
         Ok(Session {
-            tables: Plain::new(alloc, shape.objects),
-            pace: Scripted,
+            objects: Objects::new(alloc, shape, Scripted)?,
             begun: false,
             alloc,
         })
     }
 }
 
-impl<P: Drop> Session<P> {
+impl<P: Pace> Session<P> {
     /// Whether no command was performed.
     pub fn fresh(&self) -> bool
         ensures fresh { result ≡ self.now.fresh }
@@ -71,7 +86,7 @@ impl<P: Drop> Session<P> {
         ensures fresh { self.new.fresh ≡ false }
     {
         self.begun = true;
-        perform(&mut self.tables, command)
+        perform(&mut self.objects, command)
     }
 
     // The allocator that the session was made with.

@@ -1,4 +1,4 @@
-use Rattle.std.proofs.Common.{◌≡◌, ◌∙◌, ◌<◌, ℕ, ◌+◌, Option, Some, List, length, map, set, ap, sym, subst, arith}
+use Rattle.std.proofs.Common.{◌≡◌, ◌∙◌, ℕ, Some, List, length, set, ap, subst, arith}
 use Rattle.std.specs.Prelude.{slice_get}
 use Rattle.hc_value.specs.declared.prop.Prop.{Prop}
 use Rattle.hc_table.specs.Attributes.{restricted}

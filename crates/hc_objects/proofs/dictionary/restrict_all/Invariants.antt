@@ -1,4 +1,4 @@
-use Rattle.std.proofs.Common.{◌≡◌, length}
+use Rattle.std.proofs.Common.{◌≡◌}
 use Rattle.hc_table.specs.Attributes.{restricted}
 use Rattle.hc_objects.proofs.Restricting.{mapped}
 use Rattle.hc_objects.proofs.dictionary.restrict_all.Given as goal

@@ -1,0 +1,89 @@
+-- What an add makes of modes, needs and prototypes, however it is done.
+use Rattle.std.proofs.Common.{◌≡◌, ℕ, ◌<◌, List, Bool, true, false, cond, Option, Some, None, length, refl, sym, ap, ◌∙◌, subst, arith, rules}
+use Rattle.std.specs.Prelude.{IsTrue, IfSome, ◌↔◌, nat_lt}
+use Rattle.std.proofs.lemmas.Bool.Decides.{nat_tests}
+use Rattle.hc_board.specs.Trail.{Access}
+use Rattle.hc_layout.specs.declared.capacity.TheConstants.{MAX_FAST}
+use Rattle.hc_layout.specs.declared.shape.Shape.{Shape}
+use Rattle.hc_heap.specs.Readings.{root_in}
+use Rattle.hc_value.specs.declared.prop.Prop.{Prop}
+use Rattle.hc_value.specs.declared.reply.Cause.{Cause}
+use Rattle.hc_value.specs.declared.reply.Cause.TheVariants.{Many, Space}
+use Rattle.hc_tree.specs.Needs.{HasSpace, no_need}
+use Rattle.hc_table.specs.Changes.{Did, Moved, Added}
+use Rattle.hc_table.specs.World.{props_at}
+use Rattle.hc_objects.specs.Changes.{KeptBut}
+use Rattle.hc_objects.specs.Meaning.{Dictionary, cause_in, kept_of, world}
+use Rattle.hc_objects.specs.State.{ObjectsState}
+use Rattle.hc_objects.specs.Modes.{Becomes, StaysFast, IsOne, IsWithin, add_need, if_many}
+use Rattle.hc_objects.specs.Came.{IsStill, Steps, Made, world_of}
+use Rattle.hc_objects.proofs.Composing.{left-one, left-slow, slow-one, all-stay, cause-but, no-cause, protos-same, within-same}
+
+module _ {P : Type 0} (went : P → List Access → List Access → P → Type 0) where
+  -- a fast object became slow, and nothing else was done
+  pub left-moved : (a b : ObjectsState P) (o : ℕ) → Steps went a Moved b → kept_of a.kept o ≡ None → KeptBut o a.kept b.kept → b.heap.view.used ≡ a.heap.view.used → ((q : ℕ) → (root_in b.heap.view.trail q).is_proto ≡ (root_in a.heap.view.trail q).is_proto) → Made went a Moved b
+  left-moved a b o steps fast but used protos = record {
+    steps = steps;
+    modes = left-slow a b o fast but;
+    needs = within-same no_need a.heap.view.used b.heap.view.used used;
+    protos = protos-same a.heap.view.trail b.heap.view.trail Moved (λ p names. names) protos;
+  }
+
+  module _ (a b : ObjectsState P) (o : ℕ) (p : Prop) (steps : Steps went a (Added o p) b) (protos : (q : ℕ) → (root_in b.heap.view.trail q).is_proto ≡ (root_in a.heap.view.trail q).is_proto) where
+    n : ℕ
+    n = length (props_at (world_of a) o)
+
+    abbrev room : Type 0
+    room = HasSpace a.heap.view (add_need a.heap.view.trail o p)
+
+    made-by : IsOne a o (if_many (length (props_at (world_of a) o))) room b → IsWithin (add_need a.heap.view.trail o p) a.heap.view.used b.heap.view.used → Made went a (Added o p) b
+    made-by modes needs = record {
+      steps = steps;
+      modes = modes;
+      needs = needs;
+      protos = protos-same a.heap.view.trail b.heap.view.trail (Added o p) (λ q names. names) protos;
+    }
+
+    few-none : length (props_at (world_of a) o) < MAX_FAST → if_many (length (props_at (world_of a) o)) ≡ None
+    few-none lt = by (nat_lt (length (props_at (world_of a) o)) MAX_FAST) refl
+      where
+        by : (c : Bool) → nat_lt (length (props_at (world_of a) o)) MAX_FAST ≡ c → cond c None (Some Many) ≡ None
+        by true e = refl
+        by false e = let f : ⊥ = search (rules, nat_tests, lt, e) in absurd f
+
+    -- a slow object got it
+    pub added-slow : (d : Dictionary) → kept_of a.kept o ≡ Some d → KeptBut o a.kept b.kept → cause_in b.kept o ≡ cause_in a.kept o → b.heap.view.used ≡ a.heap.view.used → Made went a (Added o p) b
+    added-slow d slow but same used = made-by
+        (slow-one a b o d (if_many (length (props_at (world_of a) o))) room slow but same)
+        (within-same (add_need a.heap.view.trail o p) a.heap.view.used b.heap.view.used used)
+
+    -- a fast one got it, and stayed fast
+    pub added-fast : length (props_at (world_of a) o) < MAX_FAST → room → kept_of a.kept o ≡ None → b.kept ≡ a.kept → IsWithin (add_need a.heap.view.trail o p) a.heap.view.used b.heap.view.used → Made went a (Added o p) b
+    added-fast few there fast same needs = made-by
+        (record {
+          this = subst (λ (c : Option Cause). Becomes c (if_many (length (props_at (world_of a) o))) room (cause_in b.kept o)) (sym (no-cause a.kept o fast))
+              (subst (λ (c : Option Cause). Becomes None c room (cause_in b.kept o)) (sym (few-none few))
+              (subst (StaysFast room) (sym is) (record { stays = (λ e. there, λ r. refl); leaves = tt })));
+          others = λ q other. all-stay a b same q;
+        })
+        needs
+      where
+        is : cause_in b.kept o ≡ None
+        is = all-stay a b same o ∙ no-cause a.kept o fast
+
+    -- a fast one has as many as it can, and became slow
+    pub added-many : length (props_at (world_of a) o) ≡ MAX_FAST → kept_of a.kept o ≡ None → KeptBut o a.kept b.kept → cause_in b.kept o ≡ Some Many → b.heap.view.used ≡ a.heap.view.used → Made went a (Added o p) b
+    added-many full fast but is used = made-by
+        (subst (λ (k : ℕ). IsOne a o (if_many k) room b) (sym full) (left-one a b o Many room fast but is))
+        (within-same (add_need a.heap.view.trail o p) a.heap.view.used b.heap.view.used used)
+
+    -- a fast one became slow for want of room
+    pub added-space : length (props_at (world_of a) o) < MAX_FAST → (room → ⊥) → kept_of a.kept o ≡ None → KeptBut o a.kept b.kept → cause_in b.kept o ≡ Some Space → b.heap.view.used ≡ a.heap.view.used → Made went a (Added o p) b
+    added-space few none fast but is used = made-by
+        (record {
+          this = subst (λ (c : Option Cause). Becomes c (if_many (length (props_at (world_of a) o))) room (cause_in b.kept o)) (sym (no-cause a.kept o fast))
+              (subst (λ (c : Option Cause). Becomes None c room (cause_in b.kept o)) (sym (few-none few))
+              (subst (StaysFast room) (sym is) (record { stays = (λ e. let f : ⊥ = cc in absurd f, λ r. absurd (none r)); leaves = refl })));
+          others = λ q other. cause-but a.kept b.kept o q but other;
+        })
+        (within-same (add_need a.heap.view.trail o p) a.heap.view.used b.heap.view.used used)

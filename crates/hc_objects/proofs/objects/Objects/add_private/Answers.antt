@@ -1,0 +1,73 @@
+use Rattle.std.proofs.Common.{◌≡◌, ◌∙◌, Some, ap, sym, subst}
+use Rattle.hc_heap.specs.Readings.{gate_in}
+use Rattle.hc_heap.specs.Frames.{goes-on}
+use Rattle.hc_heap.specs.States.{View, HeapState}
+use Rattle.hc_table.specs.Changes.{Added}
+use Rattle.hc_objects.specs.Came.{Steps}
+use Rattle.hc_objects.specs.State.{ObjectsState}
+use Rattle.hc_objects.proofs.AddingAlone.{call-alone-sound, call-alone-world, call-may-take}
+use Rattle.hc_objects.proofs.Linking.{call-owner}
+use Rattle.hc_objects.proofs.Shown.{fast-has}
+use Rattle.hc_objects.proofs.objects.Objects.add_private.Goals as goal
+
+pub map_of-map-requires : goal.map_of-map-requires
+map_of-map-requires g c = record { fast = fast-has _ _ c.args.o c.self.view_is c.requires.object c.self.invariant c.requires.fast }
+
+pub grow_alone-requires-clause-open : goal.grow_alone-requires-clause-open
+grow_alone-requires-clause-open g c =
+    let read : c.map_of-map.new.h.view ≡ c.self.inside.heap.view = ap (λ (s : HeapState g.row.P.Denot). s.view) c.map_of-map.ensures.new in
+    let again : c.gate.new.self.view ≡ c.map_of-map.new.h.view = ap (λ (s : HeapState g.row.P.Denot). s.view) c.gate.ensures.new in
+    let gate : gate_in c.map_of-map.new.h.view.trail c.map_of-map.result ≡ Some c.unwrap-gate.result = sym c.gate.ensures.value ∙ c.unwrap-gate.ensures in
+    (call-owner _ _ c.args.o c.self.view_is c.self.invariant c.requires.object c.requires.fast c.requires.private c.map_of-map.new.h.view c.gate.new.self.view c.map_of-map.result c.unwrap-gate.result read again c.map_of-map.ensures.map gate).is_open
+
+pub grow_alone-requires-clause-holds : goal.grow_alone-requires-clause-holds
+grow_alone-requires-clause-holds g c =
+    let read : c.map_of-map.new.h.view ≡ c.self.inside.heap.view = ap (λ (s : HeapState g.row.P.Denot). s.view) c.map_of-map.ensures.new in
+    let again : c.gate.new.self.view ≡ c.map_of-map.new.h.view = ap (λ (s : HeapState g.row.P.Denot). s.view) c.gate.ensures.new in
+    let gate : gate_in c.map_of-map.new.h.view.trail c.map_of-map.result ≡ Some c.unwrap-gate.result = sym c.gate.ensures.value ∙ c.unwrap-gate.ensures in
+    (call-owner _ _ c.args.o c.self.view_is c.self.invariant c.requires.object c.requires.fast c.requires.private c.map_of-map.new.h.view c.gate.new.self.view c.map_of-map.result c.unwrap-gate.result read again c.map_of-map.ensures.map gate).holds
+
+pub grow_alone-requires-clause-handed : goal.grow_alone-requires-clause-handed
+grow_alone-requires-clause-handed g c =
+    let read : c.map_of-map.new.h.view ≡ c.self.inside.heap.view = ap (λ (s : HeapState g.row.P.Denot). s.view) c.map_of-map.ensures.new in
+    let again : c.gate.new.self.view ≡ c.map_of-map.new.h.view = ap (λ (s : HeapState g.row.P.Denot). s.view) c.gate.ensures.new in
+    let gate : gate_in c.map_of-map.new.h.view.trail c.map_of-map.result ≡ Some c.unwrap-gate.result = sym c.gate.ensures.value ∙ c.unwrap-gate.ensures in
+    (call-owner _ _ c.args.o c.self.view_is c.self.invariant c.requires.object c.requires.fast c.requires.private c.map_of-map.new.h.view c.gate.new.self.view c.map_of-map.result c.unwrap-gate.result read again c.map_of-map.ensures.map gate).handed
+
+pub grow_alone-requires-clause-few : goal.grow_alone-requires-clause-few
+grow_alone-requires-clause-few g c =
+    let read : c.map_of-map.new.h.view ≡ c.self.inside.heap.view = ap (λ (s : HeapState g.row.P.Denot). s.view) c.map_of-map.ensures.new in
+    let again : c.gate.new.self.view ≡ c.map_of-map.new.h.view = ap (λ (s : HeapState g.row.P.Denot). s.view) c.gate.ensures.new in
+    let gate : gate_in c.map_of-map.new.h.view.trail c.map_of-map.result ≡ Some c.unwrap-gate.result = sym c.gate.ensures.value ∙ c.unwrap-gate.ensures in
+    (call-may-take _ _ c.args.o c.self.view_is c.self.invariant c.requires.object c.requires.fast c.requires.private c.map_of-map.new.h.view c.gate.new.self.view c.map_of-map.result c.unwrap-gate.result read again c.map_of-map.ensures.map gate c.args.p c.requires.few c.requires.absent).few
+
+pub grow_alone-requires-clause-lacks : goal.grow_alone-requires-clause-lacks
+grow_alone-requires-clause-lacks g c =
+    let read : c.map_of-map.new.h.view ≡ c.self.inside.heap.view = ap (λ (s : HeapState g.row.P.Denot). s.view) c.map_of-map.ensures.new in
+    let again : c.gate.new.self.view ≡ c.map_of-map.new.h.view = ap (λ (s : HeapState g.row.P.Denot). s.view) c.gate.ensures.new in
+    let gate : gate_in c.map_of-map.new.h.view.trail c.map_of-map.result ≡ Some c.unwrap-gate.result = sym c.gate.ensures.value ∙ c.unwrap-gate.ensures in
+    (call-may-take _ _ c.args.o c.self.view_is c.self.invariant c.requires.object c.requires.fast c.requires.private c.map_of-map.new.h.view c.gate.new.self.view c.map_of-map.result c.unwrap-gate.result read again c.map_of-map.ensures.map gate c.args.p c.requires.few c.requires.absent).lacks
+
+pub invariant_of-self : goal.invariant_of-self
+invariant_of-self g c =
+    let read : c.map_of-map.new.h.view ≡ c.self.inside.heap.view = ap (λ (s : HeapState g.row.P.Denot). s.view) c.map_of-map.ensures.new in
+    let again : c.gate.new.self.view ≡ c.map_of-map.new.h.view = ap (λ (s : HeapState g.row.P.Denot). s.view) c.gate.ensures.new in
+    let gate : gate_in c.map_of-map.new.h.view.trail c.map_of-map.result ≡ Some c.unwrap-gate.result = sym c.gate.ensures.value ∙ c.unwrap-gate.ensures in
+    call-alone-sound _ _ c.args.o c.self.view_is c.self.invariant c.requires.object c.requires.fast c.requires.private c.map_of-map.new.h.view c.gate.new.self.view c.map_of-map.result c.unwrap-gate.result read again c.map_of-map.ensures.map gate c.args.p c.maps_are_kept.ensures.law c.details_rise.ensures.law c.trees_stay.ensures.law c.unused_says_nothing.ensures.law c.grow_alone.new.h.view c.changes_keep.ensures.law c.requires.absent c.requires.proper c.grow_alone.result c.grow_alone.ensures.grown
+    (λ no. ap (λ (s : HeapState g.row.P.Denot). s.view) (c.grow_alone.ensures.still no))
+
+pub returns-clause-added : goal.returns-clause-added
+returns-clause-added g c = λ yes.
+    let read : c.map_of-map.new.h.view ≡ c.self.inside.heap.view = ap (λ (s : HeapState g.row.P.Denot). s.view) c.map_of-map.ensures.new in
+    let again : c.gate.new.self.view ≡ c.map_of-map.new.h.view = ap (λ (s : HeapState g.row.P.Denot). s.view) c.gate.ensures.new in
+    let gate : gate_in c.map_of-map.new.h.view.trail c.map_of-map.result ≡ Some c.unwrap-gate.result = sym c.gate.ensures.value ∙ c.unwrap-gate.ensures in
+    let grown = c.grow_alone.ensures.grown yes in
+    let after : ObjectsState g.row.P.Denot = record { heap = c.grow_alone.new.h; kept = c.self.inside.kept.items; of_null = c.self.inside.of_null } in
+    let on = g.met.P.Pace.goes_on in
+    subst (λ (s : ObjectsState g.row.P.Denot). Steps g.P.Pace.went s (Added c.args.o c.args.p) after) c.self.view_is (record {
+      world = call-alone-world _ _ c.args.o c.self.view_is c.self.invariant c.requires.object c.requires.fast c.requires.private c.map_of-map.new.h.view c.gate.new.self.view c.map_of-map.result c.unwrap-gate.result read again c.map_of-map.ensures.map gate c.args.p c.maps_are_kept.ensures.law c.details_rise.ensures.law c.trees_stay.ensures.law c.unused_says_nothing.ensures.law c.grow_alone.new.h.view grown;
+      shape = grown.changed.shape ∙ ap (λ (w : View). w.shape) (again ∙ read);
+      goes = goes-on c.self.inside.heap.desk c.map_of-map.new.h.desk c.grow_alone.new.h.desk c.map_of-map.ensures.goes
+          (goes-on c.map_of-map.new.h.desk c.gate.new.self.desk c.grow_alone.new.h.desk c.gate.ensures.goes c.grow_alone.ensures.goes);
+      went = on _ _ _ _ _ _ c.map_of-map.ensures.went (on _ _ _ _ _ _ c.gate.ensures.went c.grow_alone.ensures.went);
+    })

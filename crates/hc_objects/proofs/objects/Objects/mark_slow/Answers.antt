@@ -1,0 +1,54 @@
+use Rattle.std.proofs.Common.{◌≡◌, ◌<◌, length, ap, sym, subst}
+use Rattle.std.specs.Prelude.{IsSome}
+use Rattle.hc_heap.specs.States.{View, IsHeap}
+use Rattle.hc_tree.specs.Tree.{IsTree}
+use Rattle.hc_table.specs.Changes.{Moved}
+use Rattle.hc_objects.specs.Becoming.{HasBecome, with_proto}
+use Rattle.hc_objects.specs.Came.{Steps}
+use Rattle.hc_objects.specs.Meaning.{kept_of, world}
+use Rattle.hc_objects.specs.State.{ObjectsState, IsObjects}
+use Rattle.hc_objects.proofs.Prototypes.{became-proto, slow-proto-sound, slow-proto-world}
+use Rattle.hc_objects.proofs.Rising.{some-of}
+use Rattle.hc_objects.proofs.Shown.{within}
+use Rattle.hc_objects.proofs.objects.Objects.mark_slow.Goals as goal
+
+pub invariant_of-self : goal.invariant_of-self
+invariant_of-self g c =
+    let v = c.self.inside.heap.view in
+    let kept = c.self.inside.kept.items in
+    let null = c.self.inside.of_null in
+    let p = c.args.p in
+    let there : p < length kept = within _ _ p c.self.view_is c.requires.object in
+    let slow = some-of (kept_of kept p) (subst (λ (s : ObjectsState g.row.P.Denot). IsSome (kept_of s.kept p)) (sym c.self.view_is) c.requires.slow) in
+    let is = c.set_is_proto.ensures.view in
+    let tree : IsTree (with_proto v.trail p) = subst (λ (w : View). IsTree w.trail) is c.set_is_proto.ensures.tree in
+    let heap : IsHeap (record v { trail = with_proto v.trail p }) = subst IsHeap is c.set_is_proto.ensures.heap in
+    subst (λ (w : View). IsObjects w kept null) (sym is)
+    (slow-proto-sound c.maps_are_kept.ensures.law c.details_rise.ensures.law v kept null c.self.invariant p there slow.0 slow.1 tree heap)
+
+pub returns-clause-moved : goal.returns-clause-moved
+returns-clause-moved g c =
+    let v = c.self.inside.heap.view in
+    let kept = c.self.inside.kept.items in
+    let null = c.self.inside.of_null in
+    let p = c.args.p in
+    let there : p < length kept = within _ _ p c.self.view_is c.requires.object in
+    let slow = some-of (kept_of kept p) (subst (λ (s : ObjectsState g.row.P.Denot). IsSome (kept_of s.kept p)) (sym c.self.view_is) c.requires.slow) in
+    let is = c.set_is_proto.ensures.view in
+    let tree : IsTree (with_proto v.trail p) = subst (λ (w : View). IsTree w.trail) is c.set_is_proto.ensures.tree in
+    let heap : IsHeap (record v { trail = with_proto v.trail p }) = subst IsHeap is c.set_is_proto.ensures.heap in
+    let after : ObjectsState g.row.P.Denot = record { heap = c.set_is_proto.new.h; kept = kept; of_null = null } in
+    subst (λ (s : ObjectsState g.row.P.Denot). Steps g.P.Pace.went s Moved after) c.self.view_is (record {
+      world = subst (λ (w : View). world w.trail kept ≡ world v.trail kept) (sym is)
+          (slow-proto-world c.maps_are_kept.ensures.law c.details_rise.ensures.law v kept null c.self.invariant p there slow.0 slow.1 tree heap);
+      shape = ap (λ (w : View). w.shape) is;
+      goes = c.set_is_proto.ensures.goes;
+      went = c.set_is_proto.ensures.went;
+    })
+
+pub returns-clause-became : goal.returns-clause-became
+returns-clause-became g c =
+    let v = c.self.inside.heap.view in
+    let p = c.args.p in
+    subst (λ (s : ObjectsState g.row.P.Denot). HasBecome p s.heap.view.trail c.set_is_proto.new.h.view.trail) c.self.view_is
+    (subst (λ (w : View). HasBecome p v.trail w.trail) (sym c.set_is_proto.ensures.view) (became-proto v.trail p))

@@ -1,0 +1,96 @@
+//! Changes of one object, fast or slow, that keep how many properties it has.
+ghost use Rattle.std.specs.Prelude.{ℕ, ◌≡◌, ◌↔◌, ◌<◌, false, IsTrue, None, Some, IsSome, OnOk, OnErr, length, option_map, slice_get};
+ghost use Rattle.hc_heap.specs.Readings.{root_in};
+ghost use Rattle.hc_table.specs.Attributes.{IsProper};
+ghost use Rattle.hc_table.specs.Changes.{Moved, Reconfigured, Locked, Restricted, name_at};
+ghost use Rattle.hc_table.specs.World.{props_at};
+ghost use Rattle.hc_objects.specs.Changes.{key_of};
+ghost use Rattle.hc_objects.specs.Meaning.{kept_of};
+ghost use Rattle.hc_objects.specs.Came.{IsStill, Made, Steps, world_of};
+
+use crate::objects::Objects;
+use hc_heap::Pace;
+use hc_value::{Cause, Memory, Prop};
+
+impl<P: Pace> Objects<P> {
+    // Whether an object is slow.
+    pub(crate) fn is_slow(&self, o: u32) -> bool
+        requires object { o < length (world_of self.now) }
+        ensures slow { IsTrue result → IsSome (kept_of self.now.kept o) }
+        ensures fast { result ≡ false → kept_of self.now.kept o ≡ None }
+    {
+        self.kept[o as usize].is_some()
+    }
+
+    // Whether the property at a place has the key of another of its name.
+    fn has_key(&mut self, o: u32, i: u32, p: &Prop) -> bool
+        requires object { o < length (world_of self.old) }
+        requires name { name_at (props_at (world_of self.old) o) i ≡ Some p.now.name }
+        ensures same { IsTrue result ↔ (option_map key_of (slice_get (props_at (world_of self.old) o) i) ≡ Some (key_of p.now)) }
+        ensures still { IsStill self.old self.new }
+    {
+        let was = self.prop_at(o, i);
+        was.attrs == p.attrs && was.held.kind() == p.held.kind()
+    }
+
+    // Puts a property of the same key in the place of another of a fast object: the object's map stays.
+    fn reconfigure_fast(&mut self, o: u32, i: u32, p: Prop)
+        requires object { o < length (world_of self.old) }
+        requires fast { kept_of self.old.kept o ≡ None }
+        requires same { option_map key_of (slice_get (props_at (world_of self.old) o) i) ≡ Some (key_of p) }
+        requires proper { IsProper p }
+        ensures steps { Steps P.went self.old (Reconfigured o i p) self.new }
+        ensures kept { self.new.kept ≡ self.old.kept }
+        ensures used { self.new.heap.view.used ≡ self.old.heap.view.used }
+        ensures protos { (q : ℕ) → (root_in self.new.heap.view.trail q).is_proto ≡ (root_in self.old.heap.view.trail q).is_proto }
+    {
+        self.write_fast(o, i, p.held);
+    }
+
+    // Puts a property of the same name in the place of another. A fast object stays so where the keys are the same.
+    pub(crate) fn reconfigure(&mut self, o: u32, i: u32, p: Prop) -> Result<(), Memory>
+        requires object { o < length (world_of self.old) }
+        requires name { name_at (props_at (world_of self.old) o) i ≡ Some p.name }
+        requires proper { IsProper p }
+        ensures did { OnOk result (Made P.went self.old (Reconfigured o i p) self.new) }
+        ensures moved { OnErr result (Made P.went self.old Moved self.new) }
+    {
+        if self.is_slow(o) {
+            self.reconfigure_slow(o, i, p);
+            return Ok(());
+        }
+        if self.has_key(o, i, &p) {
+            self.reconfigure_fast(o, i, p);
+            return Ok(());
+        }
+        self.leave(o, Cause::Reconfigured)?;
+        self.reconfigure_slow(o, i, p);
+        Ok(())
+    }
+
+    // Has an object get no further property. It is slow from now on.
+    pub(crate) fn lock(&mut self, o: u32) -> Result<(), Memory>
+        requires object { o < length (world_of self.old) }
+        ensures did { OnOk result (Made P.went self.old (Locked o) self.new) }
+        ensures moved { OnErr result (Made P.went self.old Moved self.new) }
+    {
+        if !self.is_slow(o) {
+            self.leave(o, Cause::Reconfigured)?;
+        }
+        self.lock_slow(o);
+        Ok(())
+    }
+
+    // Seals an object, or freezes it. It is slow from now on.
+    pub(crate) fn restrict(&mut self, o: u32, frozen: bool) -> Result<(), Memory>
+        requires object { o < length (world_of self.old) }
+        ensures did { OnOk result (Made P.went self.old (Restricted o frozen) self.new) }
+        ensures moved { OnErr result (Made P.went self.old Moved self.new) }
+    {
+        if !self.is_slow(o) {
+            self.leave(o, Cause::Reconfigured)?;
+        }
+        self.restrict_slow(o, frozen);
+        Ok(())
+    }
+}

@@ -1,0 +1,121 @@
+ghost use Rattle.std.specs.Prelude.{◌<◌};
+
+use super::*;
+use hc_heap::Free;
+use hc_layout::{Region, Shape};
+use hc_table::Tables;
+use hc_value::{Attrs, Cause, Held, Memory, Mode, Prop, Value};
+use std::process::Abort;
+use std::test::Fail;
+
+// Room for 8 objects, and for one of 64 properties.
+const ROOMY: Shape = Shape {
+    maps: 128,
+    entries: 4096,
+    fields: 128,
+    links: 128,
+    objects: 8,
+    slots: 256,
+    cells: 0,
+};
+
+// Gives an object that is there a property that it lacks.
+fn give(rt: &impl Abort, objects: &mut Objects<Free>, o: u32, name: u32) -> Result<(), Memory>
+    requires name { name < 1048576 }
+{
+    let there = o < objects.count();
+    assert!(rt; there);
+    let free = objects.extensible(o);
+    assert!(rt; free);
+    let absent = objects.find_own(o, name).is_none();
+    assert!(rt; absent);
+    let prop = Prop {
+        name,
+        attrs: Attrs::empty(),
+        held: Held::Datum(Value::Bool(true)),
+    };
+    objects.add(o, prop)
+}
+
+// How an object that is there is kept.
+fn shape_of(rt: &impl Abort, objects: &mut Objects<Free>, o: u32) -> Result<Mode, Memory> {
+    let there = o < objects.count();
+    assert!(rt; there);
+    objects.shape(o)
+}
+
+// Whether two objects that are there have one map.
+fn have_one_map(
+    rt: &impl Abort,
+    objects: &mut Objects<Free>,
+    a: u32,
+    b: u32,
+) -> Result<bool, Memory> {
+    let there = a < objects.count() && b < objects.count();
+    assert!(rt; there);
+    objects.same(a, b)
+}
+
+#[test]
+fn an_object_of_sixty_four_properties_is_fast_and_the_next_makes_it_slow(
+    rt: HostRuntime,
+) -> Result<(), Fail> {
+    let mut objects = Objects::new(rt.alloc(), ROOMY, Free)?;
+    assert!(rt; Tables::create(&mut objects, None) == Ok(0));
+    for name in 0..64u32 {
+        give(&rt, &mut objects, 0, name)?;
+    }
+    assert!(rt; shape_of(&rt, &mut objects, 0)? == Mode::Fast(64));
+    assert!(rt; objects.used(Region::Entries) == 2736);
+    assert!(rt; objects.used(Region::Maps) == 65);
+    assert!(rt; objects.used(Region::Links) == 64);
+    assert!(rt; objects.used(Region::Slots) == 124);
+    give(&rt, &mut objects, 0, 64)?;
+    assert!(rt; shape_of(&rt, &mut objects, 0)? == Mode::Slow(Cause::Many));
+    let there = 0 < objects.count();
+    assert!(rt; there);
+    assert!(rt; objects.len(0) == 65);
+    for name in 0..65u32 {
+        assert!(rt; objects.find_own(0, name) == Some(name));
+    }
+    Ok(())
+}
+
+#[test]
+fn an_object_is_slow_where_its_next_map_has_no_room(rt: HostRuntime) -> Result<(), Fail> {
+    let mut objects = Objects::new(rt.alloc(), Shape::small(), Free)?;
+    assert!(rt; Tables::create(&mut objects, None) == Ok(0));
+    for name in 0..3u32 {
+        give(&rt, &mut objects, 0, name)?;
+    }
+    assert!(rt; shape_of(&rt, &mut objects, 0)? == Mode::Fast(3));
+    give(&rt, &mut objects, 0, 3)?;
+    assert!(rt; shape_of(&rt, &mut objects, 0)? == Mode::Slow(Cause::Space));
+    let there = 0 < objects.count();
+    assert!(rt; there);
+    assert!(rt; objects.len(0) == 4);
+    for name in 0..4u32 {
+        assert!(rt; objects.find_own(0, name) == Some(name));
+    }
+    Ok(())
+}
+
+#[test]
+fn objects_share_a_map_where_they_are_alike(rt: HostRuntime) -> Result<(), Fail> {
+    let mut objects = Objects::new(rt.alloc(), ROOMY, Free)?;
+    for o in 0..3u32 {
+        assert!(rt; Tables::create(&mut objects, None) == Ok(o));
+    }
+    assert!(rt; have_one_map(&rt, &mut objects, 0, 1)?);
+    give(&rt, &mut objects, 0, 7)?;
+    assert!(rt; !have_one_map(&rt, &mut objects, 0, 1)?);
+    give(&rt, &mut objects, 1, 7)?;
+    assert!(rt; have_one_map(&rt, &mut objects, 0, 1)?);
+    give(&rt, &mut objects, 0, 8)?;
+    give(&rt, &mut objects, 2, 8)?;
+    give(&rt, &mut objects, 2, 7)?;
+    assert!(rt; !have_one_map(&rt, &mut objects, 0, 2)?);
+    assert!(rt; have_one_map(&rt, &mut objects, 0, 0)?);
+    assert!(rt; objects.used(Region::Maps) == 5);
+    Ok(())
+}
