@@ -51,3 +51,4 @@ pub mod Found
 pub mod Likeness
 pub mod Relinked
 pub mod Linked
+pub mod Unstable

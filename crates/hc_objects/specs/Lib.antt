@@ -6,7 +6,9 @@ pub mod Filling
 pub mod Creating
 pub mod Modes
 pub mod Privates
+pub mod Needs
 pub mod Linking
 pub mod Came
 pub mod Becoming
+pub mod Inheriting
 pub mod Laws

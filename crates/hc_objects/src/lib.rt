@@ -9,6 +9,7 @@ mod entries;
 mod fast;
 mod growing;
 mod held;
+mod inheriting;
 mod leaving;
 mod objects;
 mod privates;

@@ -9,6 +9,7 @@ ghost use Rattle.hc_tree.specs.Needs.{HasSpace};
 ghost use Rattle.hc_tree.specs.Tree.{IsTree, gate_with};
 ghost use Rattle.hc_table.specs.Changes.{IsThere, Linked, reaches};
 ghost use Rattle.hc_table.specs.World.{object};
+ghost use Rattle.hc_objects.specs.Needs.{IsFew};
 ghost use Rattle.hc_objects.specs.Came.{Steps, IsStill, world_of};
 ghost use Rattle.hc_objects.specs.Linking.{HasMapFor, IsRelinked, shared_need};
 ghost use Rattle.hc_objects.specs.Meaning.{kept_of};
@@ -27,6 +28,7 @@ use hc_tree::{Need, has_space, maps_are_kept, mark_unstable, root, trees_stay};
 fn entries_of_walk(n: u32) -> u32
     requires few { n ≤ MAX_FAST }
     ensures value { result ≡ arrays_upto n }
+    ensures most { result ≤ n * MAX_FAST }
 {
     let mut entries = 0;
     for k in 0..n {
@@ -36,9 +38,10 @@ fn entries_of_walk(n: u32) -> u32
 }
 
 // What an object with n properties needs to get another prototype, whose root may be there.
-fn need_of_link(n: u32, root: Option<u32>) -> Need
+pub(crate) fn need_of_link(n: u32, root: Option<u32>) -> Need
     requires few { n ≤ MAX_FAST }
-    ensures { result ≡ both (walk_need n) (root_need root) }
+    ensures need { result ≡ both (walk_need n) (root_need root) }
+    ensures few { IsFew result }
 {
     let roots = match root {
         Some(_) => 0,
@@ -54,7 +57,7 @@ fn need_of_link(n: u32, root: Option<u32>) -> Need
 }
 
 // The root that a prototype, or null, has.
-fn known_root<P: Pace>(
+pub(crate) fn known_root<P: Pace>(
     h: &mut Heap<P>,
     proto: Option<u32>,
     of_null: Option<u32>,
