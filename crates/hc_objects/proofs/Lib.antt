@@ -52,3 +52,4 @@ pub mod Likeness
 pub mod Relinked
 pub mod Linked
 pub mod Unstable
+pub mod Inherited
