@@ -47,3 +47,11 @@ pub mod Linking
 pub mod AddingAlone
 pub mod Entering
 pub mod Created
+pub mod Walked
+pub mod Rooted
+pub mod Found
+pub mod Likeness
+pub mod Relinked
+pub mod Linked
+pub mod Unstable
+pub mod Inherited

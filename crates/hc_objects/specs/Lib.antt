@@ -5,7 +5,10 @@ pub mod Changes
 pub mod Filling
 pub mod Modes
 pub mod Privates
+pub mod Needs
+pub mod Linking
 pub mod Came
 pub mod Becoming
+pub mod Inheriting
 pub mod Laws
 pub mod Creating

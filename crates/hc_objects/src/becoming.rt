@@ -10,6 +10,7 @@ ghost use Rattle.hc_tree.specs.Copying.{copy_need};
 ghost use Rattle.hc_tree.specs.Needs.{HasSpace, with_need};
 ghost use Rattle.hc_tree.specs.Tree.{IsTree};
 ghost use Rattle.hc_objects.specs.Becoming.{HasBecome, IsOwned, IsSettled, IsSpare, with_proto};
+ghost use Rattle.hc_objects.specs.Needs.{IsFew};
 ghost use Rattle.hc_objects.specs.Came.{Steps, IsStill, world_of};
 ghost use Rattle.hc_objects.specs.Changes.{KeptBut};
 ghost use Rattle.hc_objects.specs.Meaning.{cause_in, kept_of};
@@ -27,9 +28,10 @@ use hc_tree::{
 use hc_value::{Cause, Memory};
 
 // What a private copy needs of a map with n entries, with new fields.
-fn own_need(n: u32) -> Need
+pub(crate) fn own_need(n: u32) -> Need
     requires few { n ≤ MAX_FAST }
-    ensures { result ≡ copy_need true None n }
+    ensures need { result ≡ copy_need true None n }
+    ensures few { IsFew result }
 {
     Need {
         maps: 1,

@@ -13,6 +13,7 @@ ghost use Rattle.hc_tree.specs.Copying.{MayBeLast, copied_count, copy_need};
 ghost use Rattle.hc_tree.specs.Growth.{IsUnmoved, MayBePrototype};
 ghost use Rattle.hc_tree.specs.Needs.{HasSpace};
 ghost use Rattle.hc_tree.specs.Tree.{IsProperKey, IsTree, gate_with, tagged_field};
+ghost use Rattle.hc_objects.specs.Needs.{IsFew};
 ghost use Rattle.hc_objects.specs.Came.{Steps, IsStill, world_of};
 ghost use Rattle.hc_objects.specs.Changes.{key_of};
 ghost use Rattle.hc_objects.specs.Meaning.{kept_of};
@@ -49,9 +50,10 @@ fn need_of_growth(n: u32, capacity: u32) -> Need
 }
 
 // What a private copy needs of a map with n entries that keeps its fields.
-fn need_of_copy(n: u32) -> Need
+pub(crate) fn need_of_copy(n: u32) -> Need
     requires few { n ≤ MAX_FAST }
-    ensures { result ≡ copy_need false None n }
+    ensures need { result ≡ copy_need false None n }
+    ensures few { IsFew result }
 {
     Need {
         maps: 1,

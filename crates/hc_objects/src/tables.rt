@@ -63,7 +63,7 @@ impl<P: Pace> Tables for Objects<P> {
     }
 
     fn set_proto(&mut self, o: u32, proto: Option<u32>) -> Result<(), Memory> {
-        unreachable!()
+        self.set_prototype(o, proto)
     }
 
     fn lock(&mut self, o: u32) -> Result<(), Memory> {

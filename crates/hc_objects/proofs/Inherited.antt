@@ -1,0 +1,265 @@
+-- An object that gets another prototype, after that became one: modes, needs and prototypes.
+use Rattle.std.proofs.Common.{◌≡◌, ◌≢◌, ℕ, zero, suc, ◌+◌, ◌<◌, ◌≤◌, Bool, true, false, cond, eqb, eq-eqb, true≢false, List, Option, Some, None, IsSome, IfSome, length, refl, sym, ap, ◌∙◌, subst, arith}
+use Rattle.std.specs.Prelude.{IsTrue, option_map, ◌↔◌, if◌then◌else◌}
+use Rattle.hc_board.specs.Trail.{Access}
+use Rattle.hc_layout.specs.declared.shape.Shape.{Shape}
+use Rattle.hc_value.specs.declared.prop.Prop.{Prop}
+use Rattle.hc_value.specs.declared.reply.Cause.{Cause}
+use Rattle.hc_value.specs.declared.reply.Cause.TheVariants.{Space}
+use Rattle.hc_heap.specs.Writes.{Trail}
+use Rattle.hc_heap.specs.Readings.{map_in, root_in}
+use Rattle.hc_heap.specs.States.{View, HeapState}
+use Rattle.hc_descs.specs.Entries.{count_of}
+use Rattle.hc_tree.specs.declared.need.Need.{Need}
+use Rattle.hc_tree.specs.Copying.{copy_need}
+use Rattle.hc_tree.specs.Growth.{root_of, root_need}
+use Rattle.hc_tree.specs.Needs.{HasSpace, no_need, with_need}
+use Rattle.hc_table.specs.Changes.{Moved, Linked, reaches, reaches_among}
+use Rattle.hc_table.specs.World.{Object, World, object, props_at}
+use Rattle.hc_objects.specs.Becoming.{HasSpare, IsSpare}
+use Rattle.hc_objects.specs.Came.{IsStill, Steps, Made, world_of}
+use Rattle.hc_objects.specs.Changes.{KeptBut}
+use Rattle.hc_objects.specs.Inheriting.{IsFull, IsLinkedNow, IsNamedNow, IsSpareFor, IsSpareOf, spared_named, spared_need}
+use Rattle.hc_objects.specs.Meaning.{Dictionary, cause_in, kept_of, fast_props, prop_in, world}
+use Rattle.hc_objects.specs.Modes.{Becomes, IsLinked, IsNamed, IsWithin, Names, ProtosAfter, StaysFast, both, if_fast, if_named, link_need, named_need, need_by, proto_need, walk_need}
+use Rattle.hc_objects.specs.State.{ObjectsState, IsObjects}
+use Rattle.hc_objects.proofs.Adding.{map-is}
+use Rattle.hc_objects.proofs.Composing.{but-on, cause-but, no-cause, steps-on, within-same}
+use Rattle.hc_objects.proofs.Listed.{length-listed}
+use Rattle.hc_objects.proofs.Writing.{has-map, props-are}
+
+-- Causes
+
+none-kept : (d : Option Dictionary) → option_map (λ x. x.cause) d ≡ None → d ≡ None
+none-kept None e = refl
+none-kept (Some d) e = let f : ⊥ = cc in absurd f
+
+becomes-same : (was given now : Option Cause) (R S : Type 0) → (R → S) → (S → R) → Becomes was given R now → Becomes was given S now
+becomes-same (Some c) given now R S to from h = h
+becomes-same None (Some c) now R S to from h = h
+becomes-same None None now R S to from h = record { stays = (λ e. to (h.stays.0 e), λ s. h.stays.1 (from s)); leaves = h.leaves }
+
+-- Dictionaries
+
+pub spare-on : (R S : Type 0) (x y : Object) (d : Option Dictionary) → (R → S) → (S → R) → x ≡ y → IsSpareFor R x d → IsSpareFor S y d
+spare-on R S x y (Some d) to from same h = record { full = λ s. h.full (from s); cause = h.cause; value = h.value ∙ same }
+spare-on R S x y None to from same h = to h
+
+-- Needs
+
+-- the needs of two operations, one after the other
+within-both : (k n : Need) (a b c : Shape) → IsWithin k a b → IsWithin n b c → IsWithin (both k n) a c
+within-both k n a b c x y = record {
+  maps = omega (arith, x.maps, y.maps);
+  entries = omega (arith, x.entries, y.entries);
+  fields = omega (arith, x.fields, y.fields);
+  links = omega (arith, x.links, y.links);
+  slots = omega (arith, x.slots, y.slots);
+}
+
+space-to : (v : View) (used : Shape) (k n : Need) → used ≡ with_need k v.used → HasSpace (record v { used = used }) n → HasSpace v (both k n)
+space-to v used k n is space =
+    let there : HasSpace (record v { used = with_need k v.used }) n = subst (λ (u : Shape). HasSpace (record v { used = u }) n) is space in
+    record {
+      maps = omega (arith, there.maps);
+      entries = omega (arith, there.entries);
+      fields = omega (arith, there.fields);
+      links = omega (arith, there.links);
+      slots = omega (arith, there.slots);
+    }
+
+space-from : (v : View) (used : Shape) (k n : Need) → used ≡ with_need k v.used → HasSpace v (both k n) → HasSpace (record v { used = used }) n
+space-from v used k n is space = subst (λ (u : Shape). HasSpace (record v { used = u }) n) (sym is) (record {
+  maps = omega (arith, space.maps);
+  entries = omega (arith, space.entries);
+  fields = omega (arith, space.fields);
+  links = omega (arith, space.links);
+  slots = omega (arith, space.slots);
+})
+
+-- the room of a view is a matter of its shape and its counts
+space-view : (v w : View) (n : Need) → w.shape ≡ v.shape → HasSpace w n → HasSpace (record v { used = w.used }) n
+space-view v w n same h = subst (λ (s : Shape). HasSpace (record { shape = s; trail = v.trail; used = w.used }) n) same (record { maps = h.maps; entries = h.entries; fields = h.fields; links = h.links; slots = h.slots })
+
+view-space : (v w : View) (n : Need) → w.shape ≡ v.shape → HasSpace (record v { used = w.used }) n → HasSpace w n
+view-space v w n same h =
+    let there : HasSpace (record { shape = w.shape; trail = v.trail; used = w.used }) n = subst (λ (s : Shape). HasSpace (record { shape = s; trail = v.trail; used = w.used }) n) (sym same) h in
+    record { maps = there.maps; entries = there.entries; fields = there.fields; links = there.links; slots = there.slots }
+
+-- What an object needs to get another prototype
+
+abbrev linking : Bool → ℕ → Option ℕ → Need
+linking b n r = if b then copy_need false None n else both (walk_need n) (root_need r)
+
+link-is : (t : Trail) (o m : ℕ) (proto null : Option ℕ) → map_in t o ≡ Some m → link_need t o proto null ≡ linking (root_in t o).is_proto (count_of t m) (root_of t proto null)
+link-is t o m proto null has = ap (λ (h : Option ℕ). need_by h (λ x. linking (root_in t o).is_proto (count_of t x) (root_of t proto null))) has
+
+link-none : (t : Trail) (o : ℕ) (proto null : Option ℕ) → map_in t o ≡ None → link_need t o proto null ≡ no_need
+link-none t o proto null none = ap (λ (h : Option ℕ). need_by h (λ x. linking (root_in t o).is_proto (count_of t x) (root_of t proto null))) none
+
+root-same : (t u : Trail) (proto null then_null : Option ℕ) → ((q : ℕ) → (root_in u q).map ≡ (root_in t q).map) → then_null ≡ null → root_of u proto then_null ≡ root_of t proto null
+root-same t u None null then_null roots same = same
+root-same t u (Some p) null then_null roots same = roots p
+
+-- a fast object has as many properties as its map has entries
+count-length : (v : View) (kept : List (Option Dictionary)) (null : Option ℕ) → IsObjects v kept null → (o m : ℕ) → o < length kept → kept_of kept o ≡ None → map_in v.trail o ≡ Some m → count_of v.trail m ≡ length (props_at (world v.trail kept) o)
+count-length v kept null h o m there fast has =
+    sym (ap (λ (ps : List Prop). length ps) (props-are v kept null h o there fast ∙ ap (λ (x : ℕ). fast_props v.trail o x) (map-is v kept null h o there fast m has)) ∙ length-listed (prop_in v.trail o m) (count_of v.trail m))
+
+pub not-itself : (w : World) (o : ℕ) (proto : Option ℕ) → o < length w → reaches w proto o ≡ false → proto ≢ Some o
+not-itself w o proto lt none is = by (length w) refl
+  where
+    here : reaches w (Some o) o ≡ false
+    here = ap (λ (p : Option ℕ). reaches w p o) (sym is) ∙ none
+
+    by : (n : ℕ) → length w ≡ n → ⊥
+    by zero e = omega (arith, lt, e)
+    by (suc n) e =
+        let step : reaches_among (suc n) w (Some o) o ≡ false = subst (λ (k : ℕ). reaches_among k w (Some o) o ≡ false) e here in
+        let yes : reaches_among (suc n) w (Some o) o ≡ true = ap (λ (b : Bool). cond b true (reaches_among n w (object w o).proto o)) (eq-eqb o o refl) in
+        true≢false (sym yes ∙ step)
+
+module _ {P : Type 0} where
+  -- nothing was done: what is named needs the same, and makes the same dictionary
+  pub still-spared : (a b : ObjectsState P) → IsStill a b → (proto : Option ℕ) (d : Option Dictionary) → spared_named b proto d ≡ spared_named a proto d
+  still-spared a b still None d = refl
+  still-spared a b still (Some p) (Some d) = refl
+  still-spared a b still (Some p) None = ap (λ (s : ObjectsState P). spared_need s p None) still.is
+
+  pub still-spare : (a b : ObjectsState P) → IsStill a b → (proto : Option ℕ) (d : Option Dictionary) → IsSpareOf a proto d → IsSpareOf b proto d
+  still-spare a b still None d h = h
+  still-spare a b still (Some p) (Some d) h = subst (λ (s : ObjectsState P). HasSpare s p d) (sym still.is) (record { fast = h.fast; full = h.full; cause = h.cause; value = h.value })
+  still-spare a b still (Some p) None h = subst (λ (s : ObjectsState P). IsSpare s p None) (sym still.is) h
+
+  -- what is named needs what was counted
+  pub named-is : (a b : ObjectsState P) (proto : Option ℕ) (d : Option Dictionary) → IsSpareOf a proto d → IsNamed a proto b → named_need a proto b ≡ spared_named a proto d
+  named-is a b None d spare mode = refl
+  named-is a b (Some p) (Some d) spare mode = by (cause_in b.kept p) refl
+    where
+      stays : StaysFast (HasSpace a.heap.view (proto_need a.heap.view.trail p)) (cause_in b.kept p)
+      stays = subst (λ (c : Option Cause). Becomes c None (HasSpace a.heap.view (proto_need a.heap.view.trail p)) (cause_in b.kept p)) (no-cause a.kept p spare.fast) mode
+
+      by : (now : Option Cause) → cause_in b.kept p ≡ now → if_fast now (proto_need a.heap.view.trail p) ≡ no_need
+      by None e = absurd (spare.full (stays.stays.0 e))
+      by (Some c) e = refl
+  named-is a b (Some p) None spare mode = by (cause_in a.kept p) refl
+    where
+      need : Need
+      need = proto_need a.heap.view.trail p
+
+      by : (was : Option Cause) → cause_in a.kept p ≡ was → if_fast (cause_in b.kept p) need ≡ if_fast was need
+      by (Some c) e =
+          let now : cause_in b.kept p ≡ Some c = subst (λ (x : Option Cause). Becomes x None (HasSpace a.heap.view need) (cause_in b.kept p)) e mode in
+          ap (λ (x : Option Cause). if_fast x need) now
+      by None e =
+          let stays : StaysFast (HasSpace a.heap.view need) (cause_in b.kept p) = subst (λ (x : Option Cause). Becomes x None (HasSpace a.heap.view need) (cause_in b.kept p)) e mode in
+          ap (λ (x : Option Cause). if_fast x need) (stays.stays.1 (spare (none-kept (kept_of a.kept p) e)))
+
+  named-same : (a b c : ObjectsState P) (proto : Option ℕ) → ((p : ℕ) → proto ≡ Some p → cause_in c.kept p ≡ cause_in b.kept p) → named_need a proto c ≡ named_need a proto b
+  named-same a b c None same = refl
+  named-same a b c (Some p) same = ap (λ (x : Option Cause). if_fast x (proto_need a.heap.view.trail p)) (same p refl)
+
+  named-mode : (a b c : ObjectsState P) (proto : Option ℕ) → ((p : ℕ) → proto ≡ Some p → cause_in c.kept p ≡ cause_in b.kept p) → IsNamed a proto b → IsNamed a proto c
+  named-mode a b c None same h = h
+  named-mode a b c (Some p) same h = subst (λ (x : Option Cause). Becomes (cause_in a.kept p) None (HasSpace a.heap.view (proto_need a.heap.view.trail p)) x) (sym (same p refl)) h
+
+  named-within : (a b : ObjectsState P) (proto : Option ℕ) → IsWithin (if_named proto (proto_need a.heap.view.trail)) a.heap.view.used (with_need (named_need a proto b) a.heap.view.used)
+  named-within a b None = record { maps = omega arith; entries = omega arith; fields = omega arith; links = omega arith; slots = omega arith }
+  named-within a b (Some p) = by (cause_in b.kept p)
+    where
+      by : (now : Option Cause) → IsWithin (proto_need a.heap.view.trail p) a.heap.view.used (with_need (if_fast now (proto_need a.heap.view.trail p)) a.heap.view.used)
+      by None = record { maps = omega arith; entries = omega arith; fields = omega arith; links = omega arith; slots = omega arith }
+      by (Some c) = record { maps = omega arith; entries = omega arith; fields = omega arith; links = omega arith; slots = omega arith }
+
+  module _ (went : P → List Access → List Access → P → Type 0) where
+    -- a fast object still needs the same for another prototype
+    pub link-same : (a b : ObjectsState P) (o : ℕ) (proto : Option ℕ) → IsObjects a.heap.view a.kept a.of_null → IsObjects b.heap.view b.kept b.of_null → o < length (world_of a) → o < length a.kept → o < length b.kept → kept_of a.kept o ≡ None → proto ≢ Some o → IsNamedNow went a proto b
+        → link_need b.heap.view.trail o proto b.of_null ≡ link_need a.heap.view.trail o proto a.of_null
+    link-same a b o proto ha hb lt in_a in_b fast other it =
+        let so = has-map a.heap.view a.kept a.of_null ha o in_a fast in
+        let fast_b : kept_of b.kept o ≡ None = it.others o other ∙ fast in
+        let has_b : map_in b.heap.view.trail o ≡ Some so.map = it.maps o other ∙ so.is_map in
+        let count : count_of b.heap.view.trail so.map ≡ count_of a.heap.view.trail so.map =
+        count-length b.heap.view b.kept b.of_null hb o so.map in_b fast_b has_b
+        ∙ ap (λ (w : World). length (props_at w o)) it.steps.world
+        ∙ sym (count-length a.heap.view a.kept a.of_null ha o so.map in_a fast so.is_map) in
+        link-is b.heap.view.trail o so.map proto b.of_null has_b
+        ∙ ap (λ (x : Bool). linking x (count_of b.heap.view.trail so.map) (root_of b.heap.view.trail proto b.of_null)) (it.protos o other)
+        ∙ ap (λ (n : ℕ). linking (root_in a.heap.view.trail o).is_proto n (root_of b.heap.view.trail proto b.of_null)) count
+        ∙ ap (λ (r : Option ℕ). linking (root_in a.heap.view.trail o).is_proto (count_of a.heap.view.trail so.map) r) (root-same a.heap.view.trail b.heap.view.trail proto a.of_null b.of_null it.roots it.null)
+        ∙ sym (link-is a.heap.view.trail o so.map proto a.of_null so.is_map)
+
+    -- a slow one needs nothing
+    pub link-slow : (a b : ObjectsState P) (o : ℕ) (proto : Option ℕ) → map_in a.heap.view.trail o ≡ None → proto ≢ Some o → IsNamedNow went a proto b → link_need b.heap.view.trail o proto b.of_null ≡ link_need a.heap.view.trail o proto a.of_null
+    link-slow a b o proto none other it = link-none b.heap.view.trail o proto b.of_null (it.maps o other ∙ none) ∙ sym (link-none a.heap.view.trail o proto a.of_null none)
+
+    module _ (a b : ObjectsState P) (o : ℕ) (proto : Option ℕ) (it : IsNamedNow went a proto b) (same : link_need b.heap.view.trail o proto b.of_null ≡ link_need a.heap.view.trail o proto a.of_null) where
+      abbrev need : Need
+      need = link_need a.heap.view.trail o proto a.of_null
+
+      -- there is room now where there was room for both
+      pub room-to : HasSpace b.heap.view (link_need b.heap.view.trail o proto b.of_null) → HasSpace a.heap.view (both (named_need a proto b) (link_need a.heap.view.trail o proto a.of_null))
+      room-to space = space-to a.heap.view b.heap.view.used (named_need a proto b) need it.used (space-view a.heap.view b.heap.view need it.steps.shape (subst (HasSpace b.heap.view) same space))
+
+      pub room-from : HasSpace a.heap.view (both (named_need a proto b) (link_need a.heap.view.trail o proto a.of_null)) → HasSpace b.heap.view (link_need b.heap.view.trail o proto b.of_null)
+      room-from space = subst (HasSpace b.heap.view) (sym same) (view-space a.heap.view b.heap.view need it.steps.shape (space-from a.heap.view b.heap.view.used (named_need a proto b) need it.used space))
+
+      -- the object's dictionary is right afterwards, too
+      pub spare-then : (d slow : Option Dictionary) → IsSpareOf a proto d → IsSpareFor (HasSpace a.heap.view (both (spared_named a proto d) (link_need a.heap.view.trail o proto a.of_null))) (object (world_of a) o) slow
+          → IsSpareFor (HasSpace b.heap.view (link_need b.heap.view.trail o proto b.of_null)) (object (world_of b) o) slow
+      spare-then d slow spare h =
+          spare-on (HasSpace a.heap.view (both (named_need a proto b) (link_need a.heap.view.trail o proto a.of_null))) (HasSpace b.heap.view (link_need b.heap.view.trail o proto b.of_null)) (object (world_of a) o) (object (world_of b) o) slow
+          (λ r. room-from r) (λ r. room-to r) (ap (λ (w : World). object w o) (sym it.steps.world))
+          (subst (λ (k : Need). IsSpareFor (HasSpace a.heap.view (both k (link_need a.heap.view.trail o proto a.of_null))) (object (world_of a) o) slow) (sym (named-is a b proto d spare it.mode)) h)
+
+      -- the object got the prototype
+      pub linked-made : ((p q r : P) (first second third : List Access) → went p first second q → went q second third r → went p first third r) → (c : ObjectsState P) → proto ≢ Some o → IsLinkedNow went b o proto c → Made went a (Linked o proto) c
+      linked-made law c other linked = record {
+        steps = steps-on went law a b c (Linked o proto) it.steps linked.steps;
+        modes = record {
+          named = named-mode a b c proto stays it.mode;
+          this = subst (λ (k : Need). Becomes (cause_in a.kept o) None (HasSpace a.heap.view (both k (link_need a.heap.view.trail o proto a.of_null))) (cause_in c.kept o)) (sym (named-same a b c proto stays))
+              (becomes-same (cause_in a.kept o) None (cause_in c.kept o) (HasSpace b.heap.view (link_need b.heap.view.trail o proto b.of_null)) (HasSpace a.heap.view (both (named_need a proto b) (link_need a.heap.view.trail o proto a.of_null)))
+              (λ r. room-to r) (λ r. room-from r)
+              (subst (λ (x : Option Cause). Becomes x None (HasSpace b.heap.view (link_need b.heap.view.trail o proto b.of_null)) (cause_in c.kept o)) (ap (λ (d : Option Dictionary). option_map (λ x. x.cause) d) (it.others o other)) linked.mode));
+          others = λ q apart unnamed. cause-but b.kept c.kept o q linked.others apart ∙ ap (λ (d : Option Dictionary). option_map (λ x. x.cause) d) (it.others q unnamed);
+        };
+        needs = within-both (if_named proto (proto_need a.heap.view.trail)) need a.heap.view.used b.heap.view.used c.heap.view.used
+            (subst (IsWithin (if_named proto (proto_need a.heap.view.trail)) a.heap.view.used) (sym it.used) (named-within a b proto))
+            (subst (λ (k : Need). IsWithin k b.heap.view.used c.heap.view.used) same linked.needs);
+        protos = record {
+          named = λ p is. subst (λ (x : Bool). IsTrue x) (sym (linked.protos p)) (subst (λ (x : Option ℕ). IfSome x (λ y. IsTrue (root_in b.heap.view.trail y).is_proto)) is it.named);
+          others = λ p unnamed. linked.protos p ∙ it.protos p unnamed;
+        };
+      }
+        where
+          stays : (p : ℕ) → proto ≡ Some p → cause_in c.kept p ≡ cause_in b.kept p
+          stays p is = cause-but b.kept c.kept o p linked.others (λ e. other (is ∙ ap (λ (x : ℕ). Some x) e))
+
+    -- a slow object got it
+    pub slow-linked : (b c : ObjectsState P) (o : ℕ) (proto : Option ℕ) (d : Dictionary) → kept_of b.kept o ≡ Some d → Steps went b (Linked o proto) c → c.heap ≡ b.heap → KeptBut o b.kept c.kept → cause_in c.kept o ≡ cause_in b.kept o → IsLinkedNow went b o proto c
+    slow-linked b c o proto d slow steps heap others same =
+        let was : cause_in b.kept o ≡ Some d.cause = ap (λ (x : Option Dictionary). option_map (λ y. y.cause) x) slow in
+        record {
+          steps = steps;
+          mode = subst (λ (x : Option Cause). Becomes x None (HasSpace b.heap.view (link_need b.heap.view.trail o proto b.of_null)) (cause_in c.kept o)) (sym was) (same ∙ was);
+          needs = within-same (link_need b.heap.view.trail o proto b.of_null) b.heap.view.used c.heap.view.used (ap (λ (h : HeapState P). h.view.used) heap);
+          protos = λ q. ap (λ (h : HeapState P). (root_in h.view.trail q).is_proto) heap;
+          others = others;
+        }
+
+    -- a fast one left its map, and got it
+    pub left-linked : ((p q r : P) (first second third : List Access) → went p first second q → went q second third r → went p first third r) → (a b c : ObjectsState P) (o : ℕ) (proto : Option ℕ) (d : Dictionary)
+        → kept_of a.kept o ≡ None → (HasSpace a.heap.view (link_need a.heap.view.trail o proto a.of_null) → ⊥) → d.cause ≡ Space
+        → Steps went a Moved b → cause_in b.kept o ≡ Some d.cause → KeptBut o a.kept b.kept → b.heap.view.used ≡ a.heap.view.used → ((q : ℕ) → root_in b.heap.view.trail q ≡ root_in a.heap.view.trail q)
+        → Steps went b (Linked o proto) c → c.heap ≡ b.heap → KeptBut o b.kept c.kept → cause_in c.kept o ≡ cause_in b.kept o → IsLinkedNow went a o proto c
+    left-linked law a b c o proto d fast full space moved cause others used roots steps heap later same =
+        let now : cause_in c.kept o ≡ Some Space = same ∙ cause ∙ ap (λ (x : Cause). Some x) space in
+        record {
+          steps = steps-on went law a b c (Linked o proto) moved steps;
+          mode = subst (λ (x : Option Cause). Becomes x None (HasSpace a.heap.view (link_need a.heap.view.trail o proto a.of_null)) (cause_in c.kept o)) (sym (no-cause a.kept o fast))
+              (subst (StaysFast (HasSpace a.heap.view (link_need a.heap.view.trail o proto a.of_null))) (sym now) (record { stays = (λ e. let f : ⊥ = cc in absurd f, λ r. absurd (full r)); leaves = refl }));
+          needs = within-same (link_need a.heap.view.trail o proto a.of_null) a.heap.view.used c.heap.view.used (ap (λ (h : HeapState P). h.view.used) heap ∙ used);
+          protos = λ q. ap (λ (h : HeapState P). (root_in h.view.trail q).is_proto) heap ∙ ap (λ r. r.is_proto) (roots q);
+          others = but-on o a.kept b.kept c.kept others later;
+        }

@@ -1,0 +1,141 @@
+-- An object with a shared map comes to the one with another prototype and the same keys.
+use Rattle.std.proofs.Common.{◌≡◌, ℕ, ◌+◌, ◌<◌, ◌≤◌, Bool, true, false, cond, eqb, eqb-true, ◌∷◌, Option, Some, None, IfSome, refl, sym, ap, ◌∙◌, subst, arith, eq-eqb, true≢false}
+use Rattle.std.specs.Prelude.{IsSomeAnd, IsTrue}
+use Rattle.hc_layout.specs.declared.shape.Shape.{Shape}
+use Rattle.hc_layout.specs.declared.shape.Region.TheVariants.{Maps}
+use Rattle.hc_layout.specs.declared.words.GateWord.{GateWord}
+use Rattle.hc_layout.specs.declared.words.StoreWord.{StoreWord}
+use Rattle.hc_heap.specs.Writes.{Write, Trail, Bits, ObjectMap, Root}
+use Rattle.hc_heap.specs.Readings.{gate_in, bits_in, map_in, root_in, store_in, slot_in}
+use Rattle.hc_heap.specs.Lawful.{Lawful, LawfulObjectMap, HoldsEntries, word_from}
+use Rattle.hc_heap.specs.Kept.{Adds, DetailsRise, GatesAreOpen, SetIsKept, UnusedSaysNothing}
+use Rattle.hc_heap.specs.Frames.{same-after, adds-on, adds-wider, goes-on-of}
+use Rattle.hc_heap.specs.States.{View, IsHeap, with_write}
+use Rattle.hc_tree.specs.Tree.{IsTree, gate_with}
+use Rattle.hc_tree.specs.Kept.{MapsAreKept, TreesStay}
+use Rattle.hc_tree.specs.Growth.{marked, root_of, root_need}
+use Rattle.hc_objects.specs.Meaning.{slot_word}
+use Rattle.hc_objects.specs.State.{AreRoots, IsFast}
+use Rattle.hc_objects.specs.Changes.{Touches, SlotsStay}
+use Rattle.hc_objects.specs.Linking.{GrowsTree, HasMapFor, IsRelinked, shared_need}
+use Rattle.hc_objects.specs.Modes.{IsWithin, both, walk_need}
+use Rattle.hc_objects.proofs.Found.{grows-touches, map-grown, store-grown, slot-grown}
+use Rattle.hc_objects.proofs.Left.{marked-same}
+use Rattle.hc_objects.proofs.Likeness.{like-holds}
+use Rattle.hc_objects.proofs.Owning.{open-used}
+use Rattle.hc_objects.proofs.Rising.{not-both}
+use Rattle.hc_objects.proofs.Sound.{roots-stay}
+use Rattle.hc_objects.proofs.Sparing.{cond-other}
+use Rattle.hc_objects.proofs.Staying.{IsLater, later}
+use Rattle.hc_objects.proofs.Steps.{marked-unstable, move-tree}
+use Rattle.hc_objects.proofs.Touching.{map-marked, map-moved}
+
+-- whether an object is a prototype stays
+pub proto-grown : (q : ℕ) (t : Trail) (w : Write) → GrowsTree t w → (root_in (w ∷ t) q).is_proto ≡ (root_in t q).is_proto
+proto-grown q t (Root i r) e = by (eqb i q) refl
+  where
+    by : (c : Bool) → eqb i q ≡ c → (cond c r (root_in t q)).is_proto ≡ (root_in t q).is_proto
+    by true is = e.0 ∙ ap (λ (x : ℕ). (root_in t x).is_proto) (eqb-true i q is)
+    by false is = refl
+proto-grown q t _ e = refl
+
+-- A map that is made unstable
+
+root-bits : (t : Trail) (m : ℕ) (proto null : Option ℕ) → root_of (marked t m) proto null ≡ root_of t proto null
+root-bits t m None null = refl
+root-bits t m (Some q) null = marked-same t m (λ (x : Trail). (root_in x q).map) (λ b. refl)
+
+abbrev pub marked_view : View → ℕ → View
+marked_view v m = record v { trail = marked v.trail m }
+
+pub marked-need : (t : Trail) (m n : ℕ) (proto null : Option ℕ) → shared_need (marked t m) n proto null ≡ shared_need t n proto null
+marked-need t m n proto null = ap (λ (r : Option ℕ). both (walk_need n) (root_need r)) (root-bits t m proto null)
+
+pub marked-roots : MapsAreKept → DetailsRise → (v : View) (m : ℕ) (null : Option ℕ) → IsHeap v → IsHeap (marked_view v m) → AreRoots v.trail null → AreRoots (marked v.trail m) null
+marked-roots maps details v m null heap then_heap roots =
+    let touches = map-marked v 0 v.trail m in
+    let on : IsLater v.trail (marked v.trail m) = later maps details v.shape v.trail (marked v.trail m) heap.lawful (goes-on-of v.shape touches then_heap.lawful) in
+    roots-stay v (marked v.trail m) 0 null on touches
+    (λ k g none is shared parent. not-both (gate_in v.trail k) g none (sym (marked-same v.trail m (λ (t : Trail). gate_in t k) (λ b. refl)) ∙ is)) roots
+
+-- The object's words, from before its map was made unstable until the other map is there
+
+module _ (maps : MapsAreKept) (details : DetailsRise) (trees : TreesStay) (set : SetIsKept) (gates : GatesAreOpen) (unused : UnusedSaysNothing) (v w : View) (null then_null proto : Option ℕ) (o m c n : ℕ) (heap : IsHeap v)
+    (found : HasMapFor (marked_view v m) w null then_null m c n proto) (has : map_in v.trail o ≡ Some m) (is_open : gate_in v.trail m ≡ Some (gate_with n false)) (holds : HoldsEntries v.trail o m (gate_with n false)) (shared : (root_in v.trail o).is_proto ≡ false) where
+  touches : Adds (Touches v o) v.trail w.trail
+  touches = adds-on (map-marked v o v.trail m) (adds-wider (grows-touches v o) found.writes)
+
+  lawful-then : Lawful v.shape w.trail
+  lawful-then = subst (λ (s : Shape). Lawful s w.trail) found.shape found.heap.lawful
+
+  after : IsLater v.trail w.trail
+  after = later maps details v.shape v.trail w.trail heap.lawful (goes-on-of v.shape touches lawful-then)
+
+  map-same : map_in w.trail o ≡ map_in v.trail o
+  map-same = same-after (λ (t : Trail). map_in t o) (map-grown o) found.writes ∙ marked-same v.trail m (λ (t : Trail). map_in t o) (λ b. refl)
+
+  store-same : store_in w.trail o ≡ store_in v.trail o
+  store-same = same-after (λ (t : Trail). store_in t o) (store-grown o) found.writes ∙ marked-same v.trail m (λ (t : Trail). store_in t o) (λ b. refl)
+
+  slot-same : (s : ℕ) → slot_in w.trail s ≡ slot_in v.trail s
+  slot-same s = same-after (λ (t : Trail). slot_in t s) (slot-grown s) found.writes ∙ marked-same v.trail m (λ (t : Trail). slot_in t s) (λ b. refl)
+
+  proto-same : (q : ℕ) → (root_in w.trail q).is_proto ≡ (root_in v.trail q).is_proto
+  proto-same q = same-after (λ (t : Trail). (root_in t q).is_proto) (proto-grown q) found.writes ∙ marked-same v.trail m (λ (t : Trail). (root_in t q).is_proto) (λ b. refl)
+
+  word-by : (first : Option ℕ) (k : ℕ) → word_from w.trail first k ≡ word_from v.trail first k
+  word-by (Some x) k = slot-same (x + k)
+  word-by None k = refl
+
+  words-stay : SlotsStay v.trail w.trail o n
+  words-stay k lt = ap (λ (x : StoreWord). word_from w.trail x.first k) store-same ∙ word-by (store_in v.trail o).first k
+
+  fast : IsFast v.trail o m (gate_with n false)
+  fast = record { is_open = is_open; holds = record { capacity = holds.capacity; slots = holds.slots }; private = sym shared }
+
+  unstable-then : IsTrue (bits_in w.trail m).unstable
+  unstable-then = (set v.shape (marked v.trail m) w.trail (goes-on-of v.shape found.writes lawful-then)).unstable m (marked-unstable v.trail m)
+
+  -- the object may have the map
+  pub relink-lawful : LawfulObjectMap w.shape w.trail o (Some c)
+  relink-lawful = record {
+    leaves = subst (λ (y : Option ℕ). IfSome y (λ k. IsTrue (bits_in w.trail k).unstable)) (sym (map-same ∙ has)) unstable-then;
+    gets = record {
+      there = let used : c < w.used.maps = open-used unused w found.heap c (gate_with n false) found.like.gate in
+          let most = found.heap.most Maps in
+          omega (arith, used, most);
+      filled = subst (λ (y : Option GateWord). IsSomeAnd y (λ x. HoldsEntries w.trail o c x)) (sym found.like.gate)
+          (like-holds v.trail w.trail after found.tree (λ x g is. gates w.shape w.trail x g found.heap.lawful is) o m c n fast proto found.like
+          (subst (λ (x : StoreWord). n ≤ x.capacity) (sym store-same) holds.capacity) words-stay);
+      own = λ yes. absurd (true≢false (sym yes ∙ proto-same o ∙ shared));
+    };
+  }
+
+  -- and has it
+  module _ (moved_heap : IsHeap (with_write w (ObjectMap o (Some c)))) where
+    abbrev new : View
+    new = with_write w (ObjectMap o (Some c))
+
+    on : IsLater w.trail new.trail
+    on = later maps details w.shape w.trail new.trail found.heap.lawful (goes-on-of w.shape (map-moved w o w.trail (Some c)) moved_heap.lawful)
+
+    pub relinked : IsRelinked v (with_write w (ObjectMap o (Some c))) null then_null o m n proto
+    relinked = record {
+      map = c;
+      changed = record {
+        writes = adds-on touches (map-moved v o w.trail (Some c));
+        shape = found.shape;
+        slots = omega (arith, found.slots);
+        tree = trees w.shape w.trail new.trail found.heap.lawful (goes-on-of w.shape (map-moved w o w.trail (Some c)) moved_heap.lawful) (move-tree w.trail o (Some c)) found.tree;
+        heap = moved_heap;
+      };
+      roots = roots-stay w new.trail o then_null on (map-moved w o w.trail (Some c)) (λ k g none is private parent. not-both (gate_in w.trail k) g none is) found.roots;
+      needs = subst (λ k. IsWithin k v.used w.used) (marked-need v.trail m n proto null) found.needs;
+      objects = found.objects;
+      slots = found.slots;
+      like = record { gate = found.like.gate; prototype = found.like.prototype; keys = found.like.keys };
+      moved = ap (λ (b : Bool). cond b (Some c) (map_in w.trail o)) (eq-eqb o o refl);
+      protos = proto-same;
+      store = store-same;
+      words = slot-same;
+    }

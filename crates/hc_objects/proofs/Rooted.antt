@@ -1,0 +1,155 @@
+-- The root of a prototype, or of null, is there: it was found, or made.
+use Rattle.std.proofs.Common.{◌≡◌, ◌≢◌, ℕ, ◌+◌, ◌≤◌, Bool, true, false, cond, eqb, eqb-true, eq-eqb, ◌∷◌, Option, Some, None, IfSome, refl, sym, ap, ◌∙◌, subst, arith}
+use Rattle.std.specs.Prelude.{Result, Ok}
+use Rattle.hc_layout.specs.declared.shape.Shape.{Shape}
+use Rattle.hc_layout.specs.declared.words.GateWord.{GateWord}
+use Rattle.hc_layout.specs.declared.words.RootWord.{RootWord}
+use Rattle.hc_heap.specs.Writes.{Trail, Gate, Parent, Prototype, Root}
+use Rattle.hc_heap.specs.Readings.{gate_in, parent_in, prototype_in, root_in}
+use Rattle.hc_heap.specs.Kept.{Adds}
+use Rattle.hc_heap.specs.Frames.{adds-none, adds-one, adds-on}
+use Rattle.hc_heap.specs.States.{View, HeapState, IsHeap}
+use Rattle.hc_tree.specs.Tree.{IsTree, IsRoot, gate_with}
+use Rattle.hc_tree.specs.Needs.{HasSpace, with_need}
+use Rattle.hc_tree.specs.Growth.{IsStill, IsUnmoved, root_of, root_need, with_root, with_named_root, of_null_after}
+use Rattle.hc_objects.specs.State.{AreRoots}
+use Rattle.hc_objects.specs.Linking.{GrowsTree, shared_need}
+use Rattle.hc_objects.specs.Modes.{walk_need}
+use Rattle.hc_objects.proofs.Sound.{same-or, some-is}
+use Rattle.hc_objects.proofs.Sparing.{cond-other}
+
+-- the root was found or made
+pub record IsRooted (v w : View) (null then_null proto : Option ℕ) (r : ℕ) : Type 0 where
+  pub root : IsRoot w.trail proto r
+  pub found : (x : ℕ) → root_of v.trail proto null ≡ Some x → (w ≡ v) × (then_null ≡ null)
+  pub made : root_of v.trail proto null ≡ None → (w.trail ≡ with_named_root v.trail proto r) × (then_null ≡ of_null_after proto null r)
+  pub null_root : IfSome then_null (λ x. IsRoot w.trail None x)
+  pub used : w.used ≡ with_need (root_need (root_of v.trail proto null)) v.used
+  pub shape : w.shape ≡ v.shape
+  pub tree : IsTree w.trail
+  pub heap : IsHeap w
+
+pub is-rooted : {P : Type 0} (a b : HeapState P) (null then_null proto : Option ℕ) (r : ℕ) → IsRoot b.view.trail proto r
+    → (IsStill (root_of a.view.trail proto null) (Ok r) → IsUnmoved a b) → (IsStill (root_of a.view.trail proto null) (Ok r) → then_null ≡ null)
+    → (root_of a.view.trail proto null ≡ None → b.view.trail ≡ with_named_root a.view.trail proto r) → (root_of a.view.trail proto null ≡ None → then_null ≡ of_null_after proto null r)
+    → IfSome then_null (λ x. IsRoot b.view.trail None x) → b.view.used ≡ with_need (root_need (root_of a.view.trail proto null)) a.view.used → b.view.shape ≡ a.view.shape → IsTree b.view.trail → IsHeap b.view
+    → IsRooted a.view b.view null then_null proto r
+is-rooted {P} a b null then_null proto r root still null_still made null_made null_root used shape tree heap = record {
+  root = root;
+  found = λ x is.
+      let there : IsStill (root_of a.view.trail proto null) (Ok r) = subst (λ (f : Option ℕ). IsStill f (Ok r)) (sym is) tt in
+      (ap (λ (s : HeapState P). s.view) (still there), null_still there);
+  made = λ none. (made none, null_made none);
+  null_root = null_root;
+  used = used;
+  shape = shape;
+  tree = tree;
+  heap = heap;
+}
+
+-- The writes
+
+root-writes : (t : Trail) (p : Option ℕ) (r : ℕ) → Adds GrowsTree t (with_root t p r)
+root-writes t p r = adds-on (adds-on (adds-one t (Parent r None) tt) (adds-one (Parent r None ∷ t) (Prototype r p) tt)) (adds-one (Prototype r p ∷ Parent r None ∷ t) (Gate r (gate_with 0 false)) tt)
+
+named-writes : (t : Trail) (proto null : Option ℕ) (r : ℕ) → root_of t proto null ≡ None → Adds GrowsTree t (with_named_root t proto r)
+named-writes t None null r none = root-writes t None r
+named-writes t (Some q) null r none = adds-on (root-writes t (Some q) r) (adds-one (with_root t (Some q) r) (Root q (record { is_proto = (root_in t q).is_proto; map = Some r }))
+    (refl, λ m is. let n : None ≡ Some m = sym none ∙ is in let f : ⊥ = cc in absurd f))
+
+-- What a root that is made leaves as it was
+
+module _ (t : Trail) (r m : ℕ) (other : m ≢ r) where
+  apart : r ≢ m
+  apart is = other (sym is)
+
+  gate-same : (proto : Option ℕ) → gate_in (with_named_root t proto r) m ≡ gate_in t m
+  gate-same None = cond-other r m (Some (gate_with 0 false)) (gate_in t m) apart
+  gate-same (Some q) = cond-other r m (Some (gate_with 0 false)) (gate_in t m) apart
+
+  parent-same : (proto : Option ℕ) → parent_in (with_named_root t proto r) m ≡ parent_in t m
+  parent-same None = cond-other r m (Some None) (parent_in t m) apart
+  parent-same (Some q) = cond-other r m (Some None) (parent_in t m) apart
+
+  prototype-same : (proto : Option ℕ) → prototype_in (with_named_root t proto r) m ≡ prototype_in t m
+  prototype-same None = cond-other r m (Some None) (prototype_in t m) apart
+  prototype-same (Some q) = cond-other r m (Some (Some q)) (prototype_in t m) apart
+
+-- the root that is made is named
+named-here : (t : Trail) (proto null : Option ℕ) (r : ℕ) → root_of (with_named_root t proto r) proto (of_null_after proto null r) ≡ Some r
+named-here t None null r = refl
+named-here t (Some q) null r = ap (λ (b : Bool). let x : RootWord = record { is_proto = (root_in t q).is_proto; map = Some r } in (cond b x (root_in t q)).map) (eq-eqb q q refl)
+
+-- and the others stay so
+named-other : (t : Trail) (proto null : Option ℕ) (r : ℕ) → root_of t proto null ≡ None → (p : Option ℕ) (m : ℕ) → root_of t p null ≡ Some m → root_of (with_named_root t proto r) p (of_null_after proto null r) ≡ Some m
+named-other t None null r none None m is = let n : None ≡ Some m = sym none ∙ is in let f : ⊥ = cc in absurd f
+named-other t None null r none (Some p) m is = is
+named-other t (Some q) null r none None m is = is
+named-other t (Some q) null r none (Some p) m is = by (eqb q p) refl
+  where
+    word : RootWord
+    word = record { is_proto = (root_in t q).is_proto; map = Some r }
+
+    by : (b : Bool) → eqb q p ≡ b → (cond b word (root_in t p)).map ≡ Some m
+    by true e =
+        let same : q ≡ p = eqb-true q p e in
+        let here : (root_in t q).map ≡ Some m = ap (λ (x : ℕ). (root_in t x).map) same ∙ is in
+        let n : None ≡ Some m = sym none ∙ here in let f : ⊥ = cc in absurd f
+    by false e = is
+
+made-roots : (t : Trail) (proto null : Option ℕ) (r : ℕ) → root_of t proto null ≡ None → IsRoot (with_named_root t proto r) proto r → IfSome (of_null_after proto null r) (λ x. IsRoot (with_named_root t proto r) None x) → AreRoots t null → AreRoots (with_named_root t proto r) (of_null_after proto null r)
+made-roots t proto null r none root null_root h = record {
+  null = null_root;
+  named = λ m g p gate shared parent prototype. same-or m r (root_of (with_named_root t proto r) p (of_null_after proto null r) ≡ Some m)
+      (λ is.
+      let like : proto ≡ p = some-is proto p (sym root.prototype ∙ ap (prototype_in (with_named_root t proto r)) (sym is) ∙ prototype) in
+      ap (λ (x : Option ℕ). root_of (with_named_root t proto r) x (of_null_after proto null r)) (sym like) ∙ named-here t proto null r ∙ ap (λ (x : ℕ). Some x) (sym is))
+      (λ other. named-other t proto null r none p m
+      (h.named m g p (sym (gate-same t r m other proto) ∙ gate) shared (sym (parent-same t r m other proto) ∙ parent) (sym (prototype-same t r m other proto) ∙ prototype)));
+}
+
+module _ (v w : View) (null then_null proto : Option ℕ) (r : ℕ) (it : IsRooted v w null then_null proto r) where
+  pub rooted-writes : Adds GrowsTree v.trail w.trail
+  rooted-writes = by (root_of v.trail proto null) refl
+    where
+      by : (was : Option ℕ) → root_of v.trail proto null ≡ was → Adds GrowsTree v.trail w.trail
+      by (Some x) e = subst (λ (y : View). Adds GrowsTree v.trail y.trail) (sym (it.found x e).0) (adds-none v.trail)
+      by None e = subst (λ (t : Trail). Adds GrowsTree v.trail t) (sym (it.made e).0) (named-writes v.trail proto null r e)
+
+  pub rooted-roots : AreRoots v.trail null → AreRoots w.trail then_null
+  rooted-roots h = by (root_of v.trail proto null) refl
+    where
+      by : (was : Option ℕ) → root_of v.trail proto null ≡ was → AreRoots w.trail then_null
+      by (Some x) e =
+          let is = it.found x e in
+          subst (λ (y : View). AreRoots y.trail then_null) (sym is.0) (subst (λ (n : Option ℕ). AreRoots v.trail n) (sym is.1) h)
+      by None e =
+          let is = it.made e in
+          subst (λ (t : Trail). AreRoots t then_null) (sym is.0)
+          (subst (λ (n : Option ℕ). AreRoots (with_named_root v.trail proto r) n) (sym is.1)
+          (made-roots v.trail proto null r e
+          (subst (λ (t : Trail). IsRoot t proto r) is.0 it.root)
+          (subst (λ (n : Option ℕ). IfSome n (λ x. IsRoot (with_named_root v.trail proto r) None x)) is.1
+          (subst (λ (t : Trail). IfSome then_null (λ x. IsRoot t None x)) is.0 it.null_root)) h))
+
+  -- there is room for the walk
+  pub rooted-space : (n : ℕ) → HasSpace v (shared_need v.trail n proto null) → HasSpace w (walk_need n)
+  rooted-space n space =
+      subst (λ (s : Shape). HasSpace (record { shape = s; trail = w.trail; used = w.used }) (walk_need n)) (sym it.shape)
+      (subst (λ (u : Shape). HasSpace (record { shape = v.shape; trail = w.trail; used = u }) (walk_need n)) (sym it.used) (record {
+        maps = omega (arith, space.maps);
+        entries = omega (arith, space.entries);
+        fields = omega (arith, space.fields);
+        links = omega (arith, space.links);
+        slots = omega (arith, space.slots);
+      }))
+
+-- there is room for the root
+pub root-space : (v : View) (n : ℕ) (proto null : Option ℕ) → HasSpace v (shared_need v.trail n proto null) → HasSpace v (root_need (root_of v.trail proto null))
+root-space v n proto null space = record {
+  maps = omega (arith, space.maps);
+  entries = omega (arith, space.entries);
+  fields = omega (arith, space.fields);
+  links = omega (arith, space.links);
+  slots = omega (arith, space.slots);
+}

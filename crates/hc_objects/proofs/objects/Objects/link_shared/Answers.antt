@@ -1,0 +1,88 @@
+use Rattle.std.proofs.Common.{◌≡◌, ◌∙◌, Some, ap, sym, subst}
+use Rattle.hc_heap.specs.Readings.{gate_in}
+use Rattle.hc_heap.specs.Frames.{goes-on}
+use Rattle.hc_heap.specs.States.{View, HeapState}
+use Rattle.hc_table.specs.Changes.{Linked}
+use Rattle.hc_objects.specs.Came.{Steps}
+use Rattle.hc_objects.specs.State.{ObjectsState}
+use Rattle.hc_objects.proofs.Linked.{call-linkable, call-roots, call-may, call-room, call-world, call-sound, call-needs, call-protos}
+use Rattle.hc_objects.proofs.Shown.{fast-has}
+use Rattle.hc_objects.proofs.objects.Objects.link_shared.Goals as goal
+
+pub map_of-map-requires : goal.map_of-map-requires
+map_of-map-requires g c = record { fast = fast-has _ _ c.args.o c.self.view_is c.requires.object c.self.invariant c.requires.fast }
+
+pub link_object-requires-clause-open : goal.link_object-requires-clause-open
+link_object-requires-clause-open g c =
+    let read : c.map_of-map.new.h.view ≡ c.self.inside.heap.view = ap (λ (s : HeapState g.row.P.Denot). s.view) c.map_of-map.ensures.new in
+    let again : c.gate.new.self.view ≡ c.map_of-map.new.h.view = ap (λ (s : HeapState g.row.P.Denot). s.view) c.gate.ensures.new in
+    let gate : gate_in c.map_of-map.new.h.view.trail c.map_of-map.result ≡ Some c.unwrap-gate.result = sym c.gate.ensures.value ∙ c.unwrap-gate.ensures in
+    (call-linkable _ _ c.args.o c.args.proto c.self.view_is c.self.invariant c.requires.object c.requires.fast c.requires.shared c.map_of-map.new.h.view c.gate.new.self.view c.map_of-map.result c.unwrap-gate.result read again c.map_of-map.ensures.map gate).is_open
+
+pub link_object-requires-clause-holds : goal.link_object-requires-clause-holds
+link_object-requires-clause-holds g c =
+    let read : c.map_of-map.new.h.view ≡ c.self.inside.heap.view = ap (λ (s : HeapState g.row.P.Denot). s.view) c.map_of-map.ensures.new in
+    let again : c.gate.new.self.view ≡ c.map_of-map.new.h.view = ap (λ (s : HeapState g.row.P.Denot). s.view) c.gate.ensures.new in
+    let gate : gate_in c.map_of-map.new.h.view.trail c.map_of-map.result ≡ Some c.unwrap-gate.result = sym c.gate.ensures.value ∙ c.unwrap-gate.ensures in
+    (call-linkable _ _ c.args.o c.args.proto c.self.view_is c.self.invariant c.requires.object c.requires.fast c.requires.shared c.map_of-map.new.h.view c.gate.new.self.view c.map_of-map.result c.unwrap-gate.result read again c.map_of-map.ensures.map gate).holds
+
+pub link_object-requires-clause-handed : goal.link_object-requires-clause-handed
+link_object-requires-clause-handed g c =
+    let read : c.map_of-map.new.h.view ≡ c.self.inside.heap.view = ap (λ (s : HeapState g.row.P.Denot). s.view) c.map_of-map.ensures.new in
+    let again : c.gate.new.self.view ≡ c.map_of-map.new.h.view = ap (λ (s : HeapState g.row.P.Denot). s.view) c.gate.ensures.new in
+    let gate : gate_in c.map_of-map.new.h.view.trail c.map_of-map.result ≡ Some c.unwrap-gate.result = sym c.gate.ensures.value ∙ c.unwrap-gate.ensures in
+    (call-linkable _ _ c.args.o c.args.proto c.self.view_is c.self.invariant c.requires.object c.requires.fast c.requires.shared c.map_of-map.new.h.view c.gate.new.self.view c.map_of-map.result c.unwrap-gate.result read again c.map_of-map.ensures.map gate).handed
+
+pub link_object-requires-clause-proto : goal.link_object-requires-clause-proto
+link_object-requires-clause-proto g c =
+    let read : c.map_of-map.new.h.view ≡ c.self.inside.heap.view = ap (λ (s : HeapState g.row.P.Denot). s.view) c.map_of-map.ensures.new in
+    let again : c.gate.new.self.view ≡ c.map_of-map.new.h.view = ap (λ (s : HeapState g.row.P.Denot). s.view) c.gate.ensures.new in
+    let gate : gate_in c.map_of-map.new.h.view.trail c.map_of-map.result ≡ Some c.unwrap-gate.result = sym c.gate.ensures.value ∙ c.unwrap-gate.ensures in
+    call-may _ _ c.args.o c.args.proto c.self.view_is c.self.invariant c.requires.object c.requires.fast c.requires.shared c.map_of-map.new.h.view c.gate.new.self.view c.map_of-map.result c.unwrap-gate.result read again c.map_of-map.ensures.map gate c.requires.there c.requires.named
+
+pub invariant_of-self : goal.invariant_of-self
+invariant_of-self g c =
+    let read : c.map_of-map.new.h.view ≡ c.self.inside.heap.view = ap (λ (s : HeapState g.row.P.Denot). s.view) c.map_of-map.ensures.new in
+    let again : c.gate.new.self.view ≡ c.map_of-map.new.h.view = ap (λ (s : HeapState g.row.P.Denot). s.view) c.gate.ensures.new in
+    let gate : gate_in c.map_of-map.new.h.view.trail c.map_of-map.result ≡ Some c.unwrap-gate.result = sym c.gate.ensures.value ∙ c.unwrap-gate.ensures in
+    call-sound _ _ c.args.o c.args.proto c.self.view_is c.self.invariant c.requires.object c.requires.fast c.requires.shared c.map_of-map.new.h.view c.gate.new.self.view c.map_of-map.result c.unwrap-gate.result read again c.map_of-map.ensures.map gate c.maps_are_kept.ensures.law c.details_rise.ensures.law c.gates_are_open.ensures.law c.changes_keep.ensures.law c.link_object.new.h.view c.link_object.new.of_null c.requires.there c.requires.no_cycle c.link_object.result c.link_object.ensures.relinked
+    (λ no. ap (λ (s : HeapState g.row.P.Denot). s.view) (c.link_object.ensures.still no)) c.link_object.ensures.null
+
+pub returns-clause-linked : goal.returns-clause-linked
+returns-clause-linked g c = λ yes.
+    let read : c.map_of-map.new.h.view ≡ c.self.inside.heap.view = ap (λ (s : HeapState g.row.P.Denot). s.view) c.map_of-map.ensures.new in
+    let again : c.gate.new.self.view ≡ c.map_of-map.new.h.view = ap (λ (s : HeapState g.row.P.Denot). s.view) c.gate.ensures.new in
+    let gate : gate_in c.map_of-map.new.h.view.trail c.map_of-map.result ≡ Some c.unwrap-gate.result = sym c.gate.ensures.value ∙ c.unwrap-gate.ensures in
+    let moved = c.link_object.ensures.relinked yes in
+    let after : ObjectsState g.row.P.Denot = record { heap = c.link_object.new.h; kept = c.self.inside.kept.items; of_null = c.link_object.new.of_null } in
+    let on = g.met.P.Pace.goes_on in
+    subst (λ (s : ObjectsState g.row.P.Denot). Steps g.P.Pace.went s (Linked c.args.o c.args.proto) after) c.self.view_is (record {
+      world = call-world _ _ c.args.o c.args.proto c.self.view_is c.self.invariant c.requires.object c.requires.fast c.requires.shared c.map_of-map.new.h.view c.gate.new.self.view c.map_of-map.result c.unwrap-gate.result read again c.map_of-map.ensures.map gate c.maps_are_kept.ensures.law c.details_rise.ensures.law c.gates_are_open.ensures.law c.changes_keep.ensures.law c.link_object.new.h.view c.link_object.new.of_null moved;
+      shape = moved.changed.shape ∙ ap (λ (w : View). w.shape) (again ∙ read);
+      goes = goes-on c.self.inside.heap.desk c.map_of-map.new.h.desk c.link_object.new.h.desk c.map_of-map.ensures.goes
+          (goes-on c.map_of-map.new.h.desk c.gate.new.self.desk c.link_object.new.h.desk c.gate.ensures.goes c.link_object.ensures.goes);
+      went = on _ _ _ _ _ _ c.map_of-map.ensures.went (on _ _ _ _ _ _ c.gate.ensures.went c.link_object.ensures.went);
+    })
+
+pub returns-clause-room : goal.returns-clause-room
+returns-clause-room g c =
+    let read : c.map_of-map.new.h.view ≡ c.self.inside.heap.view = ap (λ (s : HeapState g.row.P.Denot). s.view) c.map_of-map.ensures.new in
+    let again : c.gate.new.self.view ≡ c.map_of-map.new.h.view = ap (λ (s : HeapState g.row.P.Denot). s.view) c.gate.ensures.new in
+    let gate : gate_in c.map_of-map.new.h.view.trail c.map_of-map.result ≡ Some c.unwrap-gate.result = sym c.gate.ensures.value ∙ c.unwrap-gate.ensures in
+    call-room _ _ c.args.o c.args.proto c.self.view_is c.self.invariant c.requires.object c.requires.fast c.requires.shared c.map_of-map.new.h.view c.gate.new.self.view c.map_of-map.result c.unwrap-gate.result read again c.map_of-map.ensures.map gate c.link_object.result c.link_object.ensures.room
+
+pub returns-clause-needs : goal.returns-clause-needs
+returns-clause-needs g c =
+    let read : c.map_of-map.new.h.view ≡ c.self.inside.heap.view = ap (λ (s : HeapState g.row.P.Denot). s.view) c.map_of-map.ensures.new in
+    let again : c.gate.new.self.view ≡ c.map_of-map.new.h.view = ap (λ (s : HeapState g.row.P.Denot). s.view) c.gate.ensures.new in
+    let gate : gate_in c.map_of-map.new.h.view.trail c.map_of-map.result ≡ Some c.unwrap-gate.result = sym c.gate.ensures.value ∙ c.unwrap-gate.ensures in
+    call-needs _ _ c.args.o c.args.proto c.self.view_is c.self.invariant c.requires.object c.requires.fast c.requires.shared c.map_of-map.new.h.view c.gate.new.self.view c.map_of-map.result c.unwrap-gate.result read again c.map_of-map.ensures.map gate c.maps_are_kept.ensures.law c.details_rise.ensures.law c.gates_are_open.ensures.law c.changes_keep.ensures.law c.link_object.new.h.view c.link_object.new.of_null c.link_object.result c.link_object.ensures.relinked
+    (λ no. ap (λ (s : HeapState g.row.P.Denot). s.view) (c.link_object.ensures.still no))
+
+pub returns-clause-protos : goal.returns-clause-protos
+returns-clause-protos g c =
+    let read : c.map_of-map.new.h.view ≡ c.self.inside.heap.view = ap (λ (s : HeapState g.row.P.Denot). s.view) c.map_of-map.ensures.new in
+    let again : c.gate.new.self.view ≡ c.map_of-map.new.h.view = ap (λ (s : HeapState g.row.P.Denot). s.view) c.gate.ensures.new in
+    let gate : gate_in c.map_of-map.new.h.view.trail c.map_of-map.result ≡ Some c.unwrap-gate.result = sym c.gate.ensures.value ∙ c.unwrap-gate.ensures in
+    call-protos _ _ c.args.o c.args.proto c.self.view_is c.self.invariant c.requires.object c.requires.fast c.requires.shared c.map_of-map.new.h.view c.gate.new.self.view c.map_of-map.result c.unwrap-gate.result read again c.map_of-map.ensures.map gate c.maps_are_kept.ensures.law c.details_rise.ensures.law c.gates_are_open.ensures.law c.changes_keep.ensures.law c.link_object.new.h.view c.link_object.new.of_null c.link_object.result c.link_object.ensures.relinked
+    (λ no. ap (λ (s : HeapState g.row.P.Denot). s.view) (c.link_object.ensures.still no))

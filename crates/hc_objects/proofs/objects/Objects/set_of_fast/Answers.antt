@@ -1,0 +1,62 @@
+use Rattle.std.proofs.Common.{◌≡◌, ◌≢◌, ◌∙◌, ◌<◌, ℕ, Option, None, Some, length, sym, ap, subst}
+use Rattle.hc_tree.specs.declared.need.Need.{Need}
+use Rattle.hc_tree.specs.Needs.{HasSpace}
+use Rattle.hc_table.specs.Changes.{Linked}
+use Rattle.hc_table.specs.World.{World, object}
+use Rattle.hc_objects.specs.Came.{IsStill, world_of}
+use Rattle.hc_objects.specs.Inheriting.{IsSpareFor, IsSpareOf, spared_named}
+use Rattle.hc_objects.specs.Laws.{made-before, still-on}
+use Rattle.hc_objects.specs.Meaning.{kept_of}
+use Rattle.hc_objects.specs.Modes.{both, link_need}
+use Rattle.hc_objects.specs.State.{ObjectsState, IsObjects}
+use Rattle.hc_objects.proofs.Inherited.{not-itself, link-same, linked-made, spare-then, still-spare, still-spared}
+use Rattle.hc_objects.proofs.Worlds.{length-world}
+use Rattle.hc_objects.proofs.objects.Objects.set_of_fast.Goals as goal
+
+pub link_with-requires-clause-spare : goal.link_with-requires-clause-spare
+link_with-requires-clause-spare g c =
+    let first = c.args.self.now in
+    let now = c.spare_of.new.self in
+    let a = c.link_spare.new.self in
+    let b = c.settle_for.new.self in
+    let o = c.args.o in
+    let proto = c.args.proto in
+    let named = c.in_ok-spare.spare in
+    let slow = c.in_ok-slow.slow in
+    let it = c.settle_for.ensures.named in
+    let again : IsStill now a = c.link_spare.ensures.still in
+    let still : IsStill first a = still-on first now a c.spare_of.ensures.still again in
+    let other : proto ≢ Some o = not-itself (world_of first) o proto c.requires.object c.requires.no_cycle in
+    let sound : IsObjects a.heap.view a.kept a.of_null = subst (λ (s : ObjectsState g.row.P.Denot). IsObjects s.heap.view s.kept s.of_null) (sym still.is) c.stands.ensures.sound in
+    let object_a : o < length (world_of a) = subst (λ (s : ObjectsState g.row.P.Denot). o < length (world_of s)) (sym still.is) c.requires.object in
+    let fast : kept_of a.kept o ≡ None = subst (λ (s : ObjectsState g.row.P.Denot). kept_of s.kept o ≡ None) (sym still.is) c.requires.fast in
+    let in_a : o < length a.kept = subst (λ (n : ℕ). o < n) (length-world a.heap.view.trail a.kept) object_a in
+    let object_b : o < length (world_of b) = subst (λ (w : World). o < length w) (sym it.steps.world) object_a in
+    let in_b : o < length b.kept = subst (λ (n : ℕ). o < n) (length-world b.heap.view.trail b.kept) object_b in
+    let same = link-same g.P.Pace.went a b o proto sound c.stands-2.ensures.sound object_a in_a in_b fast other it in
+    let spare : IsSpareOf a proto named = still-spare now a again proto named (still-spare first now c.spare_of.ensures.still proto named c.in_ok-spare.ensures.spare) in
+    let need : Need = spared_named now proto named in
+    let there : IsSpareFor (HasSpace a.heap.view (both need (link_need a.heap.view.trail o proto a.of_null))) (object (world_of a) o) slow =
+    subst (λ (s : ObjectsState g.row.P.Denot). IsSpareFor (HasSpace s.heap.view (both need (link_need s.heap.view.trail o proto s.of_null))) (object (world_of s) o) slow) (sym again.is) c.in_ok-slow.ensures.spare in
+    spare-then g.P.Pace.went a b o proto it same named slow spare
+    (subst (λ (k : Need). IsSpareFor (HasSpace a.heap.view (both k (link_need a.heap.view.trail o proto a.of_null))) (object (world_of a) o) slow) (sym (still-spared now a again proto named)) there)
+
+pub returns-clause-did : goal.returns-clause-did
+returns-clause-did g c =
+    let first = c.args.self.now in
+    let a = c.link_spare.new.self in
+    let b = c.settle_for.new.self in
+    let o = c.args.o in
+    let proto = c.args.proto in
+    let it = c.settle_for.ensures.named in
+    let still : IsStill first a = still-on first c.spare_of.new.self a c.spare_of.ensures.still c.link_spare.ensures.still in
+    let other : proto ≢ Some o = not-itself (world_of first) o proto c.requires.object c.requires.no_cycle in
+    let sound : IsObjects a.heap.view a.kept a.of_null = subst (λ (s : ObjectsState g.row.P.Denot). IsObjects s.heap.view s.kept s.of_null) (sym still.is) c.stands.ensures.sound in
+    let object_a : o < length (world_of a) = subst (λ (s : ObjectsState g.row.P.Denot). o < length (world_of s)) (sym still.is) c.requires.object in
+    let fast : kept_of a.kept o ≡ None = subst (λ (s : ObjectsState g.row.P.Denot). kept_of s.kept o ≡ None) (sym still.is) c.requires.fast in
+    let in_a : o < length a.kept = subst (λ (n : ℕ). o < n) (length-world a.heap.view.trail a.kept) object_a in
+    let object_b : o < length (world_of b) = subst (λ (w : World). o < length w) (sym it.steps.world) object_a in
+    let in_b : o < length b.kept = subst (λ (n : ℕ). o < n) (length-world b.heap.view.trail b.kept) object_b in
+    let same = link-same g.P.Pace.went a b o proto sound c.stands-2.ensures.sound object_a in_a in_b fast other it in
+    made-before g.P.Pace.went first a c.link_with.new.self (Linked o proto) still
+    (linked-made g.P.Pace.went a b o proto it same g.met.P.Pace.goes_on c.link_with.new.self other c.link_with.ensures.linked)

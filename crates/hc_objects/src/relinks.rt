@@ -1,0 +1,202 @@
+//! Objects that get another prototype.
+ghost use Rattle.std.specs.Prelude.{ℕ, ◌≡◌, ◌<◌, ◌≤◌, ◌*◌, ◌↔◌, true, false, IsTrue, None, Some, IfSome, length};
+ghost use Rattle.hc_layout.specs.declared.capacity.TheConstants.{MAX_FAST};
+ghost use Rattle.hc_heap.specs.Lawful.{HoldsEntries};
+ghost use Rattle.hc_heap.specs.Readings.{bits_in, gate_in, map_in, root_in};
+ghost use Rattle.hc_heap.specs.States.{Goes};
+ghost use Rattle.hc_tree.specs.Growth.{IsUnmoved, MayBePrototype, root_need, root_of};
+ghost use Rattle.hc_tree.specs.Needs.{HasSpace};
+ghost use Rattle.hc_tree.specs.Tree.{IsTree, gate_with};
+ghost use Rattle.hc_table.specs.Changes.{IsThere, Linked, reaches};
+ghost use Rattle.hc_table.specs.World.{object};
+ghost use Rattle.hc_objects.specs.Needs.{IsFew};
+ghost use Rattle.hc_objects.specs.Came.{Steps, IsStill, world_of};
+ghost use Rattle.hc_objects.specs.Linking.{HasMapFor, IsRelinked, shared_need};
+ghost use Rattle.hc_objects.specs.Meaning.{kept_of};
+ghost use Rattle.hc_objects.specs.Modes.{IsWithin, arrays_upto, both, link_need, walk_need};
+ghost use Rattle.hc_objects.specs.State.{AreRoots};
+
+use crate::fast::map_of;
+use crate::objects::Objects;
+use crate::walking::walk;
+use hc_heap::{Heap, Pace, details_rise, gates_are_open, set_is_kept, unused_says_nothing};
+use hc_layout::{MAX_FAST, cap};
+use hc_table::changes_keep;
+use hc_tree::{Need, has_space, maps_are_kept, mark_unstable, root, trees_stay};
+
+// How many entries the maps have that a walk makes for n properties.
+fn entries_of_walk(n: u32) -> u32
+    requires few { n ≤ MAX_FAST }
+    ensures value { result ≡ arrays_upto n }
+    ensures most { result ≤ n * MAX_FAST }
+{
+    let mut entries = 0;
+    for k in 0..n {
+        entries += cap(k + 1);
+    }
+    entries
+}
+
+// What an object with n properties needs to get another prototype, whose root may be there.
+pub(crate) fn need_of_link(n: u32, root: Option<u32>) -> Need
+    requires few { n ≤ MAX_FAST }
+    ensures need { result ≡ both (walk_need n) (root_need root) }
+    ensures few { IsFew result }
+{
+    let roots = match root {
+        Some(_) => 0,
+        None => 1,
+    };
+    Need {
+        maps: n + roots,
+        entries: entries_of_walk(n),
+        fields: n,
+        links: n,
+        slots: 0,
+    }
+}
+
+// The root that a prototype, or null, has.
+pub(crate) fn known_root<P: Pace>(
+    h: &mut Heap<P>,
+    proto: Option<u32>,
+    of_null: Option<u32>,
+) -> Option<u32>
+    ensures value { result ≡ root_of h.old.view.trail proto of_null }
+    ensures still { IsUnmoved h.old h.new }
+    ensures goes { Goes h.old.desk h.new.desk }
+    ensures went { P.went h.old.pace h.old.desk.trail h.new.desk.trail h.new.pace }
+{
+    match proto {
+        Some(object) => h.object_root(object).map,
+        None => of_null,
+    }
+}
+
+// The shared map with a prototype and the n keys of a map. Maps that are missing are made, for which there is room.
+fn map_for<P: Pace>(
+    h: &mut Heap<P>,
+    map: u32,
+    n: u32,
+    proto: Option<u32>,
+    of_null: &mut Option<u32>,
+) -> u32
+    requires tree { IsTree h.old.view.trail }
+    requires live { (m : ℕ) → (bits_in h.old.view.trail m).deprecated ≡ false }
+    requires roots { AreRoots h.old.view.trail of_null.old }
+    requires map { gate_in h.old.view.trail map ≡ Some (gate_with n false) }
+    requires proto { MayBePrototype h.old.view.used h.old.view.trail proto }
+    requires space { HasSpace h.old.view (shared_need h.old.view.trail n proto of_null.old) }
+    ensures found { HasMapFor h.old.view h.new.view of_null.old of_null.new map result n proto }
+    ensures goes { Goes h.old.desk h.new.desk }
+    ensures went { P.went h.old.pace h.old.desk.trail h.new.desk.trail h.new.pace }
+{
+    maps_are_kept();
+    details_rise();
+    h.stands();
+    let Ok(root) = root(h, proto, of_null) else {
+        unreachable!()
+    };
+    walk(h, root, map, n)
+}
+
+// Has an object with a shared map get another prototype, for which there is room: it comes to the map with the same
+// keys.
+fn relink<P: Pace>(
+    h: &mut Heap<P>,
+    object: u32,
+    map: u32,
+    n: u32,
+    proto: Option<u32>,
+    of_null: &mut Option<u32>,
+)
+    requires tree { IsTree h.old.view.trail }
+    requires live { (m : ℕ) → (bits_in h.old.view.trail m).deprecated ≡ false }
+    requires roots { AreRoots h.old.view.trail of_null.old }
+    requires has { map_in h.old.view.trail object ≡ Some map }
+    requires open { gate_in h.old.view.trail map ≡ Some (gate_with n false) }
+    requires holds { HoldsEntries h.old.view.trail object map (gate_with n false) }
+    requires shared { (root_in h.old.view.trail object).is_proto ≡ false }
+    requires handed { object < h.old.view.used.objects }
+    requires proto { MayBePrototype h.old.view.used h.old.view.trail proto }
+    requires space { HasSpace h.old.view (shared_need h.old.view.trail n proto of_null.old) }
+    ensures relinked { IsRelinked h.old.view h.new.view of_null.old of_null.new object map n proto }
+    ensures goes { Goes h.old.desk h.new.desk }
+    ensures went { P.went h.old.pace h.old.desk.trail h.new.desk.trail h.new.pace }
+{
+    maps_are_kept();
+    details_rise();
+    trees_stay();
+    set_is_kept();
+    gates_are_open();
+    unused_says_nothing();
+    h.stands();
+    mark_unstable(h, map);
+    let found = map_for(h, map, n, proto, of_null);
+    h.set_object_map(object, Some(found));
+}
+
+// Has an object with a shared map get another prototype. The answer is whether there was room; where there was none,
+// nothing is stored.
+fn link_object<P: Pace>(
+    h: &mut Heap<P>,
+    object: u32,
+    map: u32,
+    n: u32,
+    proto: Option<u32>,
+    of_null: &mut Option<u32>,
+) -> bool
+    requires tree { IsTree h.old.view.trail }
+    requires live { (m : ℕ) → (bits_in h.old.view.trail m).deprecated ≡ false }
+    requires roots { AreRoots h.old.view.trail of_null.old }
+    requires has { map_in h.old.view.trail object ≡ Some map }
+    requires open { gate_in h.old.view.trail map ≡ Some (gate_with n false) }
+    requires holds { HoldsEntries h.old.view.trail object map (gate_with n false) }
+    requires shared { (root_in h.old.view.trail object).is_proto ≡ false }
+    requires handed { object < h.old.view.used.objects }
+    requires proto { MayBePrototype h.old.view.used h.old.view.trail proto }
+    ensures room { IsTrue result ↔ HasSpace h.old.view (shared_need h.old.view.trail n proto of_null.old) }
+    ensures relinked { IsTrue result → IsRelinked h.old.view h.new.view of_null.old of_null.new object map n proto }
+    ensures still { result ≡ false → IsUnmoved h.old h.new }
+    ensures null { result ≡ false → of_null.new ≡ of_null.old }
+    ensures goes { Goes h.old.desk h.new.desk }
+    ensures went { P.went h.old.pace h.old.desk.trail h.new.desk.trail h.new.pace }
+{
+    gates_are_open();
+    h.stands();
+    let known = known_root(h, proto, *of_null);
+    if !has_space(h, need_of_link(n, known)) {
+        return false;
+    }
+    relink(h, object, map, n, proto, of_null);
+    true
+}
+
+impl<P: Pace> Objects<P> {
+    // Gives a fast object that isn't a prototype another prototype, which is or was one already, and whose chain doesn't
+    // come to the object. The answer is whether there was room; where there was none, nothing is stored.
+    pub(crate) fn link_shared(&mut self, o: u32, proto: Option<u32>) -> bool
+        requires object { o < length (world_of self.old) }
+        requires fast { kept_of self.old.kept o ≡ None }
+        requires there { IsThere (world_of self.old) proto }
+        requires no_cycle { reaches (world_of self.old) proto o ≡ false }
+        requires shared { (root_in self.old.heap.view.trail o).is_proto ≡ false }
+        requires named { IfSome proto (λ p. IsTrue (root_in self.old.heap.view.trail p).is_proto) }
+        ensures room { IsTrue result ↔ HasSpace self.old.heap.view (link_need self.old.heap.view.trail o proto self.old.of_null) }
+        ensures linked { IsTrue result → Steps P.went self.old (Linked o proto) self.new }
+        ensures needs { IsWithin (link_need self.old.heap.view.trail o proto self.old.of_null) self.old.heap.view.used self.new.heap.view.used }
+        ensures protos { (q : ℕ) → (root_in self.new.heap.view.trail q).is_proto ≡ (root_in self.old.heap.view.trail q).is_proto }
+        ensures still { result ≡ false → IsStill self.old self.new }
+        ensures kept { self.new.kept ≡ self.old.kept }
+    {
+        maps_are_kept();
+        details_rise();
+        trees_stay();
+        unused_says_nothing();
+        gates_are_open();
+        changes_keep();
+        let map = map_of(&mut self.heap, o);
+        let gate = self.heap.gate(map).unwrap();
+        link_object(&mut self.heap, o, map, gate.entries, proto, &mut self.of_null)
+    }
+}
