@@ -13,9 +13,9 @@ use Rattle.hc_tree.specs.Growth.{MayBePrototype, root_of, root_need}
 use Rattle.hc_tree.specs.Needs.{HasSpace, no_need, with_need}
 use Rattle.hc_table.specs.Changes.{Did, Created, Moved, IsThere, after}
 use Rattle.hc_table.specs.World.{Object, World, new_object, object, with_object}
-use Rattle.hc_objects.specs.Becoming.{IsSettled, IsSpare}
+use Rattle.hc_objects.specs.Becoming.{IsSettled, IsSpare, IsSpareOf}
 use Rattle.hc_objects.specs.Came.{IsStill, Made, Steps, world_of}
-use Rattle.hc_objects.specs.Creating.{IsBegun, IsEntered, IsSettledFor, IsSpareOf}
+use Rattle.hc_objects.specs.Creating.{IsBegun, IsEntered, IsSettledFor}
 use Rattle.hc_objects.specs.Laws.{steps-before}
 use Rattle.hc_objects.specs.Meaning.{Dictionary, cause_in, dictionary_object, kept_of}
 use Rattle.hc_objects.specs.Modes.{Becomes, IsNamed, IsWithin, StaysFast, both, if_fast, if_named, named_need, need_of, proto_need}
@@ -185,7 +185,7 @@ module _ {P : Type 0} (went : P → List Access → List Access → P → Type 0
 
   pub spare-on : (a b : ObjectsState P) (proto : Option ℕ) (o : ℕ) (mid : ObjectsState P) → IsStill a mid → IsBegun went mid proto o b → (spare : Option Dictionary) → IsThere (world_of a) proto → IsSpareOf a proto spare → IsSpareOf b proto spare
   spare-on a b (Some p) o mid still begun spare there h = spare-by a b (Some p) o mid still begun p spare there h
-  spare-on a b None o mid still begun spare there h = tt
+  spare-on a b None o mid still begun spare there h = h
 
   -- an object was made that is slow, and its prototype became one
   pub record IsReady (a : ObjectsState P) (proto : Option ℕ) (o : ℕ) (c : ObjectsState P) : Type 0 where

@@ -17,11 +17,6 @@ use Rattle.hc_objects.specs.Meaning.{Dictionary, cause_in}
 use Rattle.hc_objects.specs.Modes.{StaysFast, if_fast}
 use Rattle.hc_objects.specs.State.{ObjectsState}
 
--- the dictionary of the prototype that a new object names, where it needs one
-abbrev pub IsSpareOf : {P : Type 0} → ObjectsState P → Option ℕ → Option Dictionary → Type 0
-IsSpareOf s (Some p) spare = IsSpare s p spare
-IsSpareOf s None spare = ⊤
-
 -- the prototype that a new object names became one
 abbrev pub IsSettledFor : {P : Type 0} → (P → List Access → List Access → P → Type 0) → ObjectsState P → Option ℕ → ObjectsState P → Type 0
 IsSettledFor went a (Some p) b = IsSettled went a p b

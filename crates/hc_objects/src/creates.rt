@@ -8,7 +8,7 @@ ghost use Rattle.hc_tree.specs.Growth.{MayBePrototype};
 ghost use Rattle.hc_table.specs.Changes.{Created, IsThere, Moved};
 ghost use Rattle.hc_table.specs.World.{new_object, object};
 ghost use Rattle.hc_objects.specs.Came.{IsStill, Made, world_of};
-ghost use Rattle.hc_objects.specs.Creating.{IsBegun, IsEntered, IsSettledFor, IsSpareOf};
+ghost use Rattle.hc_objects.specs.Creating.{IsBegun, IsEntered};
 ghost use Rattle.hc_objects.specs.Meaning.{cause_in};
 
 use crate::dictionary::Dictionary;
@@ -21,29 +21,6 @@ use hc_tree::{maps_are_kept, root, trees_stay};
 use hc_value::{Cause, Memory};
 
 impl<P: Pace> Objects<P> {
-    // The dictionary of the prototype that a new object names, where it needs one.
-    fn spare_of(&mut self, proto: Option<u32>) -> Result<Option<Dictionary>, Memory>
-        requires there { IsThere (world_of self.old) proto }
-        ensures spare { IfOk result (λ d. IsSpareOf self.old proto d) }
-        ensures still { IsStill self.old self.new }
-    {
-        match proto {
-            Some(p) => self.spare(p),
-            None => Ok(None),
-        }
-    }
-
-    // Has the prototype that a new object names be one, which takes no memory.
-    fn settle_named(&mut self, proto: Option<u32>, spare: Option<Dictionary>)
-        requires there { IsThere (world_of self.old) proto }
-        requires spare { IsSpareOf self.old proto spare }
-        ensures settled { IsSettledFor P.went self.old proto self.new }
-    {
-        if let Some(p) = proto {
-            self.settle(p, spare);
-        }
-    }
-
     // Makes a slow object without properties. For want of memory alone nothing is done.
     fn create_slow(&mut self, proto: Option<u32>) -> Result<u32, Memory>
         requires room { HasRoom self.old.heap.view ObjectItems 1 }
