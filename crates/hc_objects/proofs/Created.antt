@@ -1,6 +1,6 @@
 -- An object is made in steps: it is slow at first, then its prototype becomes one, and then it comes to a root.
 use Rattle.std.proofs.Common.{◌≡◌, ◌≢◌, ℕ, zero, suc, ◌+◌, ◌<◌, ◌≤◌, false, List, [], ◌∷◌, ◌++◌, Option, Some, None, IfSome, length, refl, sym, ap, ◌∙◌, subst, arith}
-use Rattle.std.specs.Prelude.{IsTrue}
+use Rattle.std.specs.Prelude.{IsTrue, option_map}
 use Rattle.hc_board.specs.Trail.{Access}
 use Rattle.hc_layout.specs.declared.shape.Shape.{Shape}
 use Rattle.hc_value.specs.declared.reply.Cause.{Cause}
@@ -13,9 +13,10 @@ use Rattle.hc_tree.specs.Growth.{MayBePrototype, root_of, root_need}
 use Rattle.hc_tree.specs.Needs.{HasSpace, no_need, with_need}
 use Rattle.hc_table.specs.Changes.{Did, Created, Moved, IsThere, after}
 use Rattle.hc_table.specs.World.{Object, World, new_object, object, with_object}
-use Rattle.hc_objects.specs.Becoming.{IsSettled, IsSpare, IsSpareOf}
+use Rattle.hc_objects.specs.Becoming.{IsSpare}
 use Rattle.hc_objects.specs.Came.{IsStill, Made, Steps, world_of}
-use Rattle.hc_objects.specs.Creating.{IsBegun, IsEntered, IsSettledFor}
+use Rattle.hc_objects.specs.Creating.{IsBegun, IsEntered}
+use Rattle.hc_objects.specs.Inheriting.{IsNamedNow, IsSpareOf}
 use Rattle.hc_objects.specs.Laws.{steps-before}
 use Rattle.hc_objects.specs.Meaning.{Dictionary, cause_in, dictionary_object, kept_of}
 use Rattle.hc_objects.specs.Modes.{Becomes, IsNamed, IsWithin, StaysFast, both, if_fast, if_named, named_need, need_of, proto_need}
@@ -183,6 +184,13 @@ module _ {P : Type 0} (went : P → List Access → List Access → P → Type 0
       value = h.value ∙ sym (begun-object p lt);
     }
 
+    -- the prototype became what it would have become
+    named-by : (c : ObjectsState P) (x : Option ℕ) → IsThere (world_of a) x → IsNamed b x c → IsNamed a x c
+    named-by c (Some p) lt h = becomes-alike (cause_in a.kept p) (cause_in c.kept p) (HasSpace b.heap.view (proto_need b.heap.view.trail p)) (HasSpace a.heap.view (proto_need a.heap.view.trail p))
+        (space-back p) (space-on p)
+        (subst (λ (y : Option Cause). Becomes y None (HasSpace b.heap.view (proto_need b.heap.view.trail p)) (cause_in c.kept p)) (begun-cause p (begun-apart p lt)) h)
+    named-by c None lt h = tt
+
   pub spare-on : (a b : ObjectsState P) (proto : Option ℕ) (o : ℕ) (mid : ObjectsState P) → IsStill a mid → IsBegun went mid proto o b → (spare : Option Dictionary) → IsThere (world_of a) proto → IsSpareOf a proto spare → IsSpareOf b proto spare
   spare-on a b (Some p) o mid still begun spare there h = spare-by a b (Some p) o mid still begun p spare there h
   spare-on a b None o mid still begun spare there h = h
@@ -199,33 +207,19 @@ module _ {P : Type 0} (went : P → List Access → List Access → P → Type 0
     pub causes : (q : ℕ) → q ≢ o → (proto ≡ Some q → ⊥) → cause_in c.kept q ≡ cause_in a.kept q
     pub null : c.of_null ≡ a.of_null
 
-  pub ready : (a b c : ObjectsState P) (proto : Option ℕ) (o : ℕ) (mid : ObjectsState P) → IsStill a mid → IsBegun went mid proto o b → IsThere (world_of a) proto → IsSettledFor went b proto c → IsReady a proto o c
-  ready a b c None o mid still begun there is = subst (λ (s : ObjectsState P). IsReady a None o s) (sym is) (record {
-    steps = begun-steps a b None o mid still begun;
-    number = begun-number a b None o mid still begun;
-    named = tt;
-    used = ap (λ (v : View). v.used) (begun-view a b None o mid still begun) ∙ with-none (record a.heap.view.used { objects = o + 1 });
-    roots = λ q. ap (λ (t : Trail). (root_in t q).map) (begun-trail a b None o mid still begun);
-    marked = λ q e. let f : ⊥ = cc in absurd f;
-    protos = λ q other. ap (λ (t : Trail). (root_in t q).is_proto) (begun-trail a b None o mid still begun);
-    causes = λ q other unnamed. begun-cause a b None o mid still begun q other;
-    null = begun-null a b None o mid still begun;
-  })
-  ready a b c (Some p) o mid still begun there settled =
-      let apart : p ≢ o = begun-apart a b (Some p) o mid still begun p there in
-      let trail = begun-trail a b (Some p) o mid still begun in
+  pub ready : (a b c : ObjectsState P) (proto : Option ℕ) (o : ℕ) (mid : ObjectsState P) → IsStill a mid → IsBegun went mid proto o b → IsThere (world_of a) proto → IsNamedNow went b proto c → IsReady a proto o c
+  ready a b c proto o mid still begun there it =
+      let trail = begun-trail a b proto o mid still begun in
       record {
-        steps = steps-then a b c (Created (Some p)) (begun-steps a b (Some p) o mid still begun) settled.steps;
-        number = begun-number a b (Some p) o mid still begun;
-        named = becomes-alike (cause_in a.kept p) (cause_in c.kept p) (HasSpace b.heap.view (proto_need b.heap.view.trail p)) (HasSpace a.heap.view (proto_need a.heap.view.trail p))
-            (space-back a b (Some p) o mid still begun p) (space-on a b (Some p) o mid still begun p)
-            (subst (λ (x : Option Cause). Becomes x None (HasSpace b.heap.view (proto_need b.heap.view.trail p)) (cause_in c.kept p)) (begun-cause a b (Some p) o mid still begun p apart) settled.mode);
-        used = settled.used ∙ ap (λ (v : View). with_need (if_fast (cause_in c.kept p) (proto_need v.trail p)) v.used) (begun-view a b (Some p) o mid still begun);
-        roots = λ q. settled.became.roots q ∙ ap (λ (t : Trail). (root_in t q).map) trail;
-        marked = λ q e. let same : p ≡ q = cc in subst (λ (x : ℕ). IsTrue (root_in c.heap.view.trail x).is_proto) same settled.became.proto;
-        protos = λ q other. settled.became.protos q (λ e. other (ap (λ (x : ℕ). Some x) (sym e))) ∙ ap (λ (t : Trail). (root_in t q).is_proto) trail;
-        causes = λ q other unnamed. cause-but b.kept c.kept p q settled.others (λ e. unnamed (ap (λ (x : ℕ). Some x) (sym e))) ∙ begun-cause a b (Some p) o mid still begun q other;
-        null = settled.null ∙ begun-null a b (Some p) o mid still begun;
+        steps = steps-then a b c (Created proto) (begun-steps a b proto o mid still begun) it.steps;
+        number = begun-number a b proto o mid still begun;
+        named = named-by a b proto o mid still begun c proto there it.mode;
+        used = it.used ∙ ap (λ (v : View). with_need (if_named proto (λ p. if_fast (cause_in c.kept p) (proto_need v.trail p))) v.used) (begun-view a b proto o mid still begun);
+        roots = λ q. it.roots q ∙ ap (λ (t : Trail). (root_in t q).map) trail;
+        marked = λ q e. let named : IfSome (Some q) (λ p. IsTrue (root_in c.heap.view.trail p).is_proto) = subst (λ (x : Option ℕ). IfSome x (λ p. IsTrue (root_in c.heap.view.trail p).is_proto)) e it.named in named;
+        protos = λ q unnamed. it.protos q unnamed ∙ ap (λ (t : Trail). (root_in t q).is_proto) trail;
+        causes = λ q other unnamed. ap (λ (d : Option Dictionary). option_map (λ x. x.cause) d) (it.others q unnamed) ∙ begun-cause a b proto o mid still begun q other;
+        null = it.null ∙ begun-null a b proto o mid still begun;
       }
 
   module _ (a c : ObjectsState P) (proto : Option ℕ) (o : ℕ) (there : IsThere (world_of a) proto) (is : IsReady a proto o c) where

@@ -16,10 +16,10 @@ use Rattle.hc_tree.specs.Growth.{root_of, root_need}
 use Rattle.hc_tree.specs.Needs.{HasSpace, no_need, with_need}
 use Rattle.hc_table.specs.Changes.{Moved, Linked, reaches, reaches_among}
 use Rattle.hc_table.specs.World.{Object, World, object, props_at}
-use Rattle.hc_objects.specs.Becoming.{HasSpare, IsSpare, IsSpareOf}
+use Rattle.hc_objects.specs.Becoming.{HasSpare, IsSpare}
 use Rattle.hc_objects.specs.Came.{IsStill, Steps, Made, world_of}
 use Rattle.hc_objects.specs.Changes.{KeptBut}
-use Rattle.hc_objects.specs.Inheriting.{IsFull, IsLinkedNow, IsNamedNow, IsSpareFor, spared_named, spared_need}
+use Rattle.hc_objects.specs.Inheriting.{IsFull, IsLinkedNow, IsNamedNow, IsSpareFor, IsSpareOf, spared_named, spared_need}
 use Rattle.hc_objects.specs.Meaning.{Dictionary, cause_in, kept_of, fast_props, prop_in, world}
 use Rattle.hc_objects.specs.Modes.{Becomes, IsLinked, IsNamed, IsWithin, Names, ProtosAfter, StaysFast, both, if_fast, if_named, link_need, named_need, need_by, proto_need, walk_need}
 use Rattle.hc_objects.specs.State.{ObjectsState, IsObjects}

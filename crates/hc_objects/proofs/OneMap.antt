@@ -159,6 +159,7 @@ module _ {P : Type 0} (gates : GatesAreOpen) (s : ObjectsState P) (h : IsObjects
   there_b = subst (λ (k : ℕ). b < k) (length-world s.heap.view.trail s.kept) in_b
 
   pub compared : a ≢ b → IsTrue (nat_eq m n) ↔ AreAlike s.heap.view.trail s.kept a b
-  compared other =
-      ( (λ yes. alike-of gates s.heap.view s.kept s.of_null h a b there_a there_b (fast a m there_a is_a) (fast b n there_b is_b) m other is_a (is_b ∙ ap (λ (k : ℕ). Some k) (sym (eqb-true m n yes))))
-      , (λ alike. eq-eqb m n (map-of gates s.heap.view s.kept s.of_null h a b there_a there_b (fast a m there_a is_a) (fast b n there_b is_b) alike m n is_a is_b)) )
+  compared other = (
+    (λ yes. alike-of gates s.heap.view s.kept s.of_null h a b there_a there_b (fast a m there_a is_a) (fast b n there_b is_b) m other is_a (is_b ∙ ap (λ (k : ℕ). Some k) (sym (eqb-true m n yes)))),
+    (λ alike. eq-eqb m n (map-of gates s.heap.view s.kept s.of_null h a b there_a there_b (fast a m there_a is_a) (fast b n there_b is_b) alike m n is_a is_b)),
+  )

@@ -60,8 +60,3 @@ pub record IsSettled {P : Type 0} (goes_with : P → List Access → List Access
   pub became : HasBecome p a.heap.view.trail b.heap.view.trail
   pub others : KeptBut p a.kept b.kept
   pub null : b.of_null ≡ a.of_null
-
--- the dictionary of what is named as prototype
-abbrev pub IsSpareOf : {P : Type 0} → ObjectsState P → Option ℕ → Option Dictionary → Type 0
-IsSpareOf s (Some p) d = IsSpare s p d
-IsSpareOf s None d = d ≡ None

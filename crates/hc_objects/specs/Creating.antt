@@ -1,5 +1,5 @@
 -- How an object without properties is made: slow at first, and fast where there is room for the root of its prototype.
-use Rattle.std.specs.Prelude.{◌≡◌, ℕ, ◌+◌, Option, Some, None, IfSome, List, length, ⊤}
+use Rattle.std.specs.Prelude.{◌≡◌, ℕ, ◌+◌, Option, Some, None, IfSome, List, length}
 use Rattle.hc_board.specs.Trail.{Access}
 use Rattle.hc_value.specs.declared.reply.Cause.TheVariants.{Space}
 use Rattle.hc_heap.specs.Readings.{root_in}
@@ -10,17 +10,11 @@ use Rattle.hc_tree.specs.Needs.{HasSpace, with_need}
 use Rattle.hc_tree.specs.Tree.{IsTree, IsRoot}
 use Rattle.hc_table.specs.Changes.{Created, Moved}
 use Rattle.hc_table.specs.World.{new_object, object}
-use Rattle.hc_objects.specs.Becoming.{IsSettled, IsSpare}
 use Rattle.hc_objects.specs.Came.{Steps, world_of}
 use Rattle.hc_objects.specs.Changes.{KeptBut}
-use Rattle.hc_objects.specs.Meaning.{Dictionary, cause_in}
+use Rattle.hc_objects.specs.Meaning.{cause_in}
 use Rattle.hc_objects.specs.Modes.{StaysFast, if_fast}
 use Rattle.hc_objects.specs.State.{ObjectsState}
-
--- the prototype that a new object names became one
-abbrev pub IsSettledFor : {P : Type 0} → (P → List Access → List Access → P → Type 0) → ObjectsState P → Option ℕ → ObjectsState P → Type 0
-IsSettledFor went a (Some p) b = IsSettled went a p b
-IsSettledFor went a None b = b ≡ a
 
 -- a slow object was made
 pub record IsBegun {P : Type 0} (goes_with : P → List Access → List Access → P → Type 0) (a : ObjectsState P) (proto : Option ℕ) (o : ℕ) (b : ObjectsState P) : Type 0 where

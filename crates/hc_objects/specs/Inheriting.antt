@@ -7,12 +7,17 @@ use Rattle.hc_tree.specs.declared.need.Need.{Need}
 use Rattle.hc_tree.specs.Needs.{HasSpace, no_need, with_need}
 use Rattle.hc_table.specs.Changes.{Moved, Linked}
 use Rattle.hc_table.specs.World.{Object}
-use Rattle.hc_objects.specs.Becoming.{IsSpare, IsSpareOf}
+use Rattle.hc_objects.specs.Becoming.{IsSpare}
 use Rattle.hc_objects.specs.Came.{Steps}
 use Rattle.hc_objects.specs.Changes.{KeptBut}
 use Rattle.hc_objects.specs.Meaning.{Dictionary, cause_in, dictionary_object, kept_of}
 use Rattle.hc_objects.specs.Modes.{Becomes, IsNamed, IsWithin, if_fast, link_need, named_need, proto_need}
 use Rattle.hc_objects.specs.State.{ObjectsState}
+
+-- the dictionary of what is named as prototype
+abbrev pub IsSpareOf : {P : Type 0} → ObjectsState P → Option ℕ → Option Dictionary → Type 0
+IsSpareOf s (Some p) d = IsSpare s p d
+IsSpareOf s None d = d ≡ None
 
 -- what an object needs to be a prototype for which it makes this dictionary: nothing where it is slow, or is to be
 abbrev pub spared_need : {P : Type 0} → ObjectsState P → ℕ → Option Dictionary → Need

@@ -5,13 +5,11 @@ ghost use Rattle.hc_heap.specs.Lawful.{IsOwnMap};
 ghost use Rattle.hc_heap.specs.Readings.{map_in, root_in};
 ghost use Rattle.hc_heap.specs.States.{IsHeap, Goes};
 ghost use Rattle.hc_descs.specs.Entries.{count_of};
-ghost use Rattle.hc_table.specs.Changes.{IsThere, Moved};
+ghost use Rattle.hc_table.specs.Changes.{Moved};
 ghost use Rattle.hc_tree.specs.Copying.{copy_need};
 ghost use Rattle.hc_tree.specs.Needs.{HasSpace, with_need};
 ghost use Rattle.hc_tree.specs.Tree.{IsTree};
-ghost use Rattle.hc_objects.specs.Becoming.{HasBecome, IsOwned, IsSettled, IsSpare, IsSpareOf, with_proto};
-ghost use Rattle.hc_objects.specs.Creating.{IsSettledFor};
-ghost use Rattle.hc_objects.specs.Inheriting.{IsNamedNow};
+ghost use Rattle.hc_objects.specs.Becoming.{HasBecome, IsOwned, IsSettled, IsSpare, with_proto};
 ghost use Rattle.hc_objects.specs.Needs.{IsFew};
 ghost use Rattle.hc_objects.specs.Came.{Steps, IsStill, world_of};
 ghost use Rattle.hc_objects.specs.Changes.{KeptBut};
@@ -204,29 +202,5 @@ impl<P: Pace> Objects<P> {
         let spare = self.spare(p)?;
         self.settle(p, spare);
         Ok(())
-    }
-
-    // The dictionary of what is named as prototype, where that is fast, and there is no room for a private map.
-    pub(crate) fn spare_of(&mut self, proto: Option<u32>) -> Result<Option<Dictionary>, Memory>
-        requires there { IsThere (world_of self.old) proto }
-        ensures spare { IfOk result (λ d. IsSpareOf self.old proto d) }
-        ensures still { IsStill self.old self.new }
-    {
-        match proto {
-            Some(p) => self.spare(p),
-            None => Ok(None),
-        }
-    }
-
-    // Has what is named as prototype be one from now on. It takes no memory.
-    pub(crate) fn settle_named(&mut self, proto: Option<u32>, spare: Option<Dictionary>)
-        requires there { IsThere (world_of self.old) proto }
-        requires spare { IsSpareOf self.old proto spare }
-        ensures settled { IsSettledFor P.went self.old proto self.new }
-        ensures named { IsNamedNow P.went self.old proto self.new }
-    {
-        if let Some(p) = proto {
-            self.settle(p, spare);
-        }
     }
 }

@@ -5,8 +5,7 @@ ghost use Rattle.hc_table.specs.Changes.{IsThere, Linked, Moved, reaches};
 ghost use Rattle.hc_table.specs.World.{object};
 ghost use Rattle.hc_tree.specs.Needs.{HasSpace};
 ghost use Rattle.hc_objects.specs.Came.{IsStill, Made, world_of};
-ghost use Rattle.hc_objects.specs.Becoming.{IsSpareOf};
-ghost use Rattle.hc_objects.specs.Inheriting.{IsLinkedNow, IsMarked, IsNamedNow, IsSpareFor, NamesSlow, spared_named, spared_need};
+ghost use Rattle.hc_objects.specs.Inheriting.{IsLinkedNow, IsMarked, IsNamedNow, IsSpareFor, IsSpareOf, NamesSlow, spared_named, spared_need};
 ghost use Rattle.hc_objects.specs.Meaning.{kept_of};
 ghost use Rattle.hc_objects.specs.Needs.{IsFew};
 ghost use Rattle.hc_objects.specs.Modes.{both, link_need};
@@ -116,6 +115,18 @@ impl<P: Pace> Objects<P> {
         Ok(Some(slow))
     }
 
+    // The dictionary of what is named as prototype, where that is fast, and there is no room for a private map.
+    pub(crate) fn spare_of(&mut self, proto: Option<u32>) -> Result<Option<Dictionary>, Memory>
+        requires there { IsThere (world_of self.old) proto }
+        ensures spare { IfOk result (λ d. IsSpareOf self.old proto d) }
+        ensures still { IsStill self.old self.new }
+    {
+        match proto {
+            Some(p) => self.spare(p),
+            None => Ok(None),
+        }
+    }
+
     // Makes the map of a fast object unstable.
     fn mark_map(&mut self, o: u32)
         requires object { o < length (world_of self.old) }
@@ -128,6 +139,17 @@ impl<P: Pace> Objects<P> {
         unused_says_nothing();
         let map = map_of(&mut self.heap, o);
         mark_unstable(&mut self.heap, map);
+    }
+
+    // Has what is named as prototype be one from now on. It takes no memory.
+    pub(crate) fn settle_named(&mut self, proto: Option<u32>, spare: Option<Dictionary>)
+        requires there { IsThere (world_of self.old) proto }
+        requires spare { IsSpareOf self.old proto spare }
+        ensures named { IsNamedNow P.went self.old proto self.new }
+    {
+        if let Some(p) = proto {
+            self.settle(p, spare);
+        }
     }
 
     // Whether a slow object is named as prototype.

@@ -197,6 +197,13 @@ impl<P: Pace> Objects<P> {
         changes_keep();
         let map = map_of(&mut self.heap, o);
         let gate = self.heap.gate(map).unwrap();
-        link_object(&mut self.heap, o, map, gate.entries, proto, &mut self.of_null)
+        link_object(
+            &mut self.heap,
+            o,
+            map,
+            gate.entries,
+            proto,
+            &mut self.of_null,
+        )
     }
 }

@@ -11,6 +11,7 @@ use std::test::Fail;
 
 mod changing;
 mod growth;
+mod prototypes;
 
 #[test]
 fn there_is_no_object_at_first(rt: HostRuntime) -> Result<(), Fail> {

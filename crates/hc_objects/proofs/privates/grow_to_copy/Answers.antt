@@ -80,5 +80,5 @@ pub returns-clause-went : goal.returns-clause-went
 returns-clause-went g c =
     let on = g.met.P.Pace.goes_on in
     on _ _ _ _ _ _ c.proto.ensures.went
-        (on _ _ _ _ _ _ c.copy_map-copy.ensures.went
-        (on _ _ _ _ _ _ c.fill_next.ensures.went c.set_object_map.ensures.went))
+    (on _ _ _ _ _ _ c.copy_map-copy.ensures.went
+    (on _ _ _ _ _ _ c.fill_next.ensures.went c.set_object_map.ensures.went))

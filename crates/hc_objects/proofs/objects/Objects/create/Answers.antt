@@ -1,7 +1,5 @@
-use Rattle.std.proofs.Common.{◌≡◌, ℕ, ◌≤◌, false, true, true≢false, length, refl, sym, ap, ◌∙◌, subst, arith}
+use Rattle.std.proofs.Common.{◌≡◌, ◌≤◌, false, true≢false, length, refl, sym, ap, ◌∙◌, subst, arith}
 use Rattle.hc_heap.specs.Readings.{root_in}
-use Rattle.hc_table.specs.World.{World}
-use Rattle.hc_objects.specs.Came.{world_of}
 use Rattle.hc_objects.specs.State.{ObjectsState}
 use Rattle.hc_objects.proofs.Created.{IsReady, begun-number, created, ready, ready-proto, ready-shared, ready-there, spare-on}
 use Rattle.hc_objects.proofs.Creating.{is-full, not-full, ok-not-full, proto-none}
@@ -40,7 +38,7 @@ enter_root-requires-clause-object g c =
     let begun = c.create_slow.new.self in
     let o = c.in-Ok-create_slow.object in
     let named = c.settle_named.new.self in
-    let it : IsReady g.P.Pace.went g.met.P.Pace.goes_on a c.args.proto o named = ready g.P.Pace.went g.met.P.Pace.goes_on a begun named c.args.proto o mid c.in-Ok.ensures.still c.in-Ok-create_slow.ensures.begun c.requires c.settle_named.ensures.settled in
+    let it : IsReady g.P.Pace.went g.met.P.Pace.goes_on a c.args.proto o named = ready g.P.Pace.went g.met.P.Pace.goes_on a begun named c.args.proto o mid c.in-Ok.ensures.still c.in-Ok-create_slow.ensures.begun c.requires c.settle_named.ensures.named in
     ready-there g.P.Pace.went g.met.P.Pace.goes_on a named c.args.proto o c.requires it
 
 pub enter_root-requires-clause-shared : goal.enter_root-requires-clause-shared
@@ -50,7 +48,7 @@ enter_root-requires-clause-shared g c =
     let begun = c.create_slow.new.self in
     let o = c.in-Ok-create_slow.object in
     let named = c.settle_named.new.self in
-    let it : IsReady g.P.Pace.went g.met.P.Pace.goes_on a c.args.proto o named = ready g.P.Pace.went g.met.P.Pace.goes_on a begun named c.args.proto o mid c.in-Ok.ensures.still c.in-Ok-create_slow.ensures.begun c.requires c.settle_named.ensures.settled in
+    let it : IsReady g.P.Pace.went g.met.P.Pace.goes_on a c.args.proto o named = ready g.P.Pace.went g.met.P.Pace.goes_on a begun named c.args.proto o mid c.in-Ok.ensures.still c.in-Ok-create_slow.ensures.begun c.requires c.settle_named.ensures.named in
     let v = c.self.inside.heap.view in
     let count : length c.self.inside.kept.items ≡ length a.kept = ap (λ (s : ObjectsState g.row.P.Denot). length s.kept) c.self.view_is in
     let unmade : v.used.objects ≤ o = omega (arith, it.number, count, c.self.invariant.items) in
@@ -64,7 +62,7 @@ enter_root-requires-clause-proto g c =
     let begun = c.create_slow.new.self in
     let o = c.in-Ok-create_slow.object in
     let named = c.settle_named.new.self in
-    let it : IsReady g.P.Pace.went g.met.P.Pace.goes_on a c.args.proto o named = ready g.P.Pace.went g.met.P.Pace.goes_on a begun named c.args.proto o mid c.in-Ok.ensures.still c.in-Ok-create_slow.ensures.begun c.requires c.settle_named.ensures.settled in
+    let it : IsReady g.P.Pace.went g.met.P.Pace.goes_on a c.args.proto o named = ready g.P.Pace.went g.met.P.Pace.goes_on a begun named c.args.proto o mid c.in-Ok.ensures.still c.in-Ok-create_slow.ensures.begun c.requires c.settle_named.ensures.named in
     ready-proto g.P.Pace.went g.met.P.Pace.goes_on a named c.args.proto o c.requires it
 
 pub returns-clause-number : goal.returns-clause-number
@@ -80,5 +78,5 @@ returns-clause-did g c =
     let begun = c.create_slow.new.self in
     let o = c.in-Ok-create_slow.object in
     let named = c.settle_named.new.self in
-    let it : IsReady g.P.Pace.went g.met.P.Pace.goes_on a c.args.proto o named = ready g.P.Pace.went g.met.P.Pace.goes_on a begun named c.args.proto o mid c.in-Ok.ensures.still c.in-Ok-create_slow.ensures.begun c.requires c.settle_named.ensures.settled in
+    let it : IsReady g.P.Pace.went g.met.P.Pace.goes_on a c.args.proto o named = ready g.P.Pace.went g.met.P.Pace.goes_on a begun named c.args.proto o mid c.in-Ok.ensures.still c.in-Ok-create_slow.ensures.begun c.requires c.settle_named.ensures.named in
     created g.P.Pace.went g.met.P.Pace.goes_on a named c.args.proto o c.requires it c.enter_root.new.self c.enter_root.ensures.entered

@@ -1,4 +1,4 @@
-use Rattle.std.proofs.Common.{◌≡◌, ℕ, ◌+◌, ◌<◌, ◌≤◌, true, List, [], ◌∷◌, ◌++◌, Option, Some, None, length, refl, sym, ap, ◌∙◌, subst, arith}
+use Rattle.std.proofs.Common.{◌≡◌, ℕ, ◌+◌, ◌<◌, ◌≤◌, true, List, [], ◌∷◌, ◌++◌, Option, Some, length, refl, sym, ap, ◌∙◌, subst, arith}
 use Rattle.std.specs.Prelude.{option_map}
 use Rattle.hc_layout.specs.declared.shape.Region.TheVariants.{Objects}
 use Rattle.hc_value.specs.declared.prop.Prop.{Prop}
@@ -6,7 +6,7 @@ use Rattle.hc_value.specs.declared.reply.Cause.TheVariants.{Space}
 use Rattle.hc_heap.specs.Frames.{goes-none}
 use Rattle.hc_heap.specs.States.{View, HeapState, Goes, HasRoom}
 use Rattle.hc_table.specs.Changes.{IsThere}
-use Rattle.hc_table.specs.World.{Object, new_object, object, with_object}
+use Rattle.hc_table.specs.World.{Object, new_object, object}
 use Rattle.hc_objects.specs.Changes.{KeptBut}
 use Rattle.hc_objects.specs.Creating.{IsBegun}
 use Rattle.hc_objects.specs.Meaning.{Dictionary, cause_in, dictionary_object, world}

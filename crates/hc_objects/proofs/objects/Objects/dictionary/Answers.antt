@@ -1,22 +1,14 @@
-use Rattle.std.proofs.Common.{◌≡◌, ◌∙◌, ◌<◌, ◌≤◌, ◌∷◌, Option, Some, None, length, refl, ap, sym, subst, arith}
+use Rattle.std.proofs.Common.{◌≡◌, ◌<◌, None, length, refl, sym, subst}
 use Rattle.std.specs.Prelude.{IfOk}
 use Rattle.std.specs.List.{AllByRecursion}
-use Rattle.hc_value.specs.declared.reply.Cause.{Cause}
-use Rattle.hc_heap.specs.Writes.{ObjectMap}
-use Rattle.hc_heap.specs.Readings.{map_in, root_in}
-use Rattle.hc_heap.specs.Frames.{goes-on}
-use Rattle.hc_heap.specs.States.{View, HeapState, IsHeap}
-use Rattle.hc_tree.specs.Growth.{marked, IsUnmoved}
-use Rattle.hc_tree.specs.Tree.{IsTree}
+use Rattle.hc_heap.specs.Readings.{map_in}
 use Rattle.hc_table.specs.Attributes.{IsProper}
-use Rattle.hc_table.specs.Changes.{Moved}
 use Rattle.hc_table.specs.World.{Object, object, HaveDistinctNames}
 use Rattle.hc_objects.specs.Came.{IsStill, world_of}
-use Rattle.hc_objects.specs.Meaning.{Dictionary, dictionary_object, kept_of, object_shown, world}
-use Rattle.hc_objects.specs.State.{ObjectsState, HasMap}
-use Rattle.hc_objects.proofs.Items.{kept-set_here}
+use Rattle.hc_objects.specs.Meaning.{dictionary_object, kept_of, object_shown, world}
+use Rattle.hc_objects.specs.State.{ObjectsState}
 use Rattle.hc_objects.proofs.Become.{still-heap}
-use Rattle.hc_objects.proofs.Left.{unmoved-one, unmoved-on, unmoved-goes, unmoved-went, fast-is, map-used, left-world, left-sound, left-protos}
+use Rattle.hc_objects.proofs.Left.{fast-is}
 use Rattle.hc_objects.proofs.Shown.{within}
 use Rattle.hc_objects.proofs.Writing.{has-map}
 use Rattle.hc_objects.proofs.objects.Objects.dictionary.Goals as goal

@@ -1,6 +1,5 @@
-use Rattle.std.proofs.Common.{◌≡◌, ◌≢◌, ℕ, ◌<◌, ◌∷◌, false, List, Option, Some, None, length, set, refl, sym, ap, ◌∙◌, subst}
+use Rattle.std.proofs.Common.{◌≡◌, ◌<◌, false, Option, Some, None, length, set, refl, sym, ap, ◌∙◌, subst}
 use Rattle.std.specs.Prelude.{option_map}
-use Rattle.hc_layout.specs.declared.shape.Shape.{Shape}
 use Rattle.hc_value.specs.declared.reply.Cause.{Cause}
 use Rattle.hc_value.specs.declared.reply.Cause.TheVariants.{Space}
 use Rattle.hc_heap.specs.Writes.{ObjectMap}

@@ -1,8 +1,6 @@
-use Rattle.std.proofs.Common.{◌≡◌, ◌≤◌, Some, false, ap, sym, ◌∙◌, subst}
-use Rattle.hc_heap.specs.Readings.{gate_in, root_in}
-use Rattle.hc_heap.specs.States.{View, HeapState, IsHeap}
-use Rattle.hc_objects.specs.State.{ObjectsState}
-use Rattle.hc_objects.proofs.Become.{proto-copy}
+use Rattle.std.proofs.Common.{◌≡◌, Some, ap, sym, ◌∙◌}
+use Rattle.hc_heap.specs.Readings.{gate_in}
+use Rattle.hc_heap.specs.States.{View, HeapState}
 use Rattle.hc_objects.proofs.Shown.{fast-has}
 use Rattle.hc_objects.proofs.objects.Objects.fits_own.Goals as goal
 

@@ -1,4 +1,4 @@
-use Rattle.std.proofs.Common.{◌≡◌, ◌<◌, Bool, true, false, None, length, refl, ap, sym, ◌∙◌, subst, arith}
+use Rattle.std.proofs.Common.{◌≡◌, ◌<◌, true, false, None, length, ap, sym, ◌∙◌, subst, arith}
 use Rattle.hc_heap.specs.Frames.{goes-on}
 use Rattle.hc_heap.specs.States.{View, HeapState}
 use Rattle.hc_heap.specs.Readings.{root_in}
@@ -10,7 +10,7 @@ use Rattle.hc_table.specs.Changes.{Moved}
 use Rattle.hc_objects.specs.Becoming.{HasBecome, IsOwned}
 use Rattle.hc_objects.specs.Came.{Steps}
 use Rattle.hc_objects.specs.Meaning.{kept_of}
-use Rattle.hc_objects.specs.State.{ObjectsState, HasMap, IsObjects}
+use Rattle.hc_objects.specs.State.{ObjectsState, HasMap}
 use Rattle.hc_objects.specs.Modes.{proto_need}
 use Rattle.hc_objects.proofs.Become.{proto-copy}
 use Rattle.hc_objects.proofs.Owned.{own-sound, own-world}

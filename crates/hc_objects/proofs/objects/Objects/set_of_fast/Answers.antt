@@ -4,8 +4,7 @@ use Rattle.hc_tree.specs.Needs.{HasSpace}
 use Rattle.hc_table.specs.Changes.{Linked}
 use Rattle.hc_table.specs.World.{World, object}
 use Rattle.hc_objects.specs.Came.{IsStill, world_of}
-use Rattle.hc_objects.specs.Becoming.{IsSpareOf}
-use Rattle.hc_objects.specs.Inheriting.{IsSpareFor, spared_named}
+use Rattle.hc_objects.specs.Inheriting.{IsSpareFor, IsSpareOf, spared_named}
 use Rattle.hc_objects.specs.Laws.{made-before, still-on}
 use Rattle.hc_objects.specs.Meaning.{kept_of}
 use Rattle.hc_objects.specs.Modes.{both, link_need}
