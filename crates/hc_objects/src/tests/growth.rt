@@ -1,6 +1,7 @@
 ghost use Rattle.std.specs.Prelude.{◌<◌};
 
 use super::*;
+use bitflags::Flags;
 use hc_heap::Free;
 use hc_layout::{Region, Shape};
 use hc_table::Tables;
