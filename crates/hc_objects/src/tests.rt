@@ -11,6 +11,7 @@ use std::test::Fail;
 
 mod changing;
 mod growth;
+mod inheriting;
 mod prototypes;
 
 #[test]

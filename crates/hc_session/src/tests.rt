@@ -1,9 +1,13 @@
+ghost use Rattle.hc_layout.specs.Shape.{IsShape};
+
 use crate::{Session, replay};
 use hc_layout::Shape;
 use hc_script::{Bytes, Calls, Cuts, MemSink, MemSource, Status, What};
 use std::alloc::{AllocError, Global};
 use std::process::Abort;
 use std::test::Fail;
+
+mod beside;
 
 // One replay: the program's words, the script, how it is cut, which calls fail, and what comes of it.
 #[derive(Clone, Copy)]
@@ -41,7 +45,9 @@ fn words_of(alloc: Global, words: &[&str]) -> Result<Vec<String>, AllocError> {
     Ok(all)
 }
 
-fn check(rt: &impl Abort, alloc: Global, case: &Case) -> Result<(), Fail> {
+fn check(rt: &impl Abort, alloc: Global, shape: Shape, case: &Case) -> Result<(), Fail>
+    requires { IsShape shape }
+{
     let words = words_of(alloc, case.words)?;
     let bytes = Bytes::from_vec(case.script.as_bytes().to_vec(alloc)?);
     let cuts = Cuts::from_vec(vec![in alloc; case.cut; 64]?);
@@ -51,7 +57,7 @@ fn check(rt: &impl Abort, alloc: Global, case: &Case) -> Result<(), Fail> {
         Calls::from_vec(vec![in alloc; case.read_fails]?),
     );
     let mut sink = MemSink::new(alloc, Calls::from_vec(vec![in alloc; case.write_fails]?));
-    let mut session = Session::scripted(alloc, Shape::usual())?;
+    let mut session = Session::scripted(alloc, shape)?;
     assert!(rt; session.fresh());
     let status = replay(&words, &mut source, &mut sink, &mut session);
     assert_eq!(rt; status, case.status, "{}", case.script);
@@ -110,7 +116,7 @@ fn scripts_are_answered(rt: HostRuntime) -> Result<(), Fail> {
         },
     ];
     for case in &cases {
-        check(&rt, rt.alloc(), case)?;
+        check(&rt, rt.alloc(), Shape::usual(), case)?;
     }
     Ok(())
 }
@@ -166,7 +172,7 @@ fn cuts_and_faults_leave_a_prefix(rt: HostRuntime) -> Result<(), Fail> {
         },
     ];
     for case in &cases {
-        check(&rt, rt.alloc(), case)?;
+        check(&rt, rt.alloc(), Shape::usual(), case)?;
     }
     Ok(())
 }
@@ -211,7 +217,7 @@ fn each_read_may_fail(rt: HostRuntime) -> Result<(), Fail> {
                 read_fails,
                 ..whole(FIRST, output, Status::ReadFault)
             };
-            check(&rt, rt.alloc(), &case)?;
+            check(&rt, rt.alloc(), Shape::small(), &case)?;
         }
     }
     Ok(())
@@ -362,7 +368,7 @@ fn assert_output(rt: &impl Abort, alloc: Global, script: &str, output: &str) -> 
         Calls::from_vec(Vec::new(alloc)),
     );
     let mut sink = MemSink::new(alloc, Calls::from_vec(Vec::new(alloc)));
-    let mut session = Session::scripted(alloc, Shape::usual())?;
+    let mut session = Session::scripted(alloc, Shape::small())?;
     assert!(rt; session.fresh());
     let _status = replay(&words, &mut source, &mut sink, &mut session);
     assert_eq!(rt; sink.bytes(), output.as_bytes(), "{script}");

@@ -45,6 +45,23 @@ fn shape_of(rt: &impl Abort, objects: &mut Objects<Free>, o: u32) -> Result<Mode
     objects.shape(o)
 }
 
+// Stops unless an object that is there has as many properties, whose names are their places.
+fn expect_names(rt: &impl Abort, objects: &mut Objects<Free>, o: u32, count: u32) {
+    let there = o < objects.count();
+    assert!(rt; there);
+    assert!(rt; objects.len(o) == count);
+    for name in 0..count {
+        expect_name(rt, objects, o, name);
+    }
+}
+
+// Stops unless an object that is there has the property of a name at the place of that number.
+fn expect_name(rt: &impl Abort, objects: &mut Objects<Free>, o: u32, name: u32) {
+    let there = o < objects.count();
+    assert!(rt; there);
+    assert!(rt; objects.find_own(o, name) == Some(name));
+}
+
 // Whether two objects that are there have one map.
 fn have_one_map(
     rt: &impl Abort,
@@ -73,12 +90,7 @@ fn an_object_of_sixty_four_properties_is_fast_and_the_next_makes_it_slow(
     assert!(rt; objects.used(Region::Slots) == 124);
     give(&rt, &mut objects, 0, 64)?;
     assert!(rt; shape_of(&rt, &mut objects, 0)? == Mode::Slow(Cause::Many));
-    let there = 0 < objects.count();
-    assert!(rt; there);
-    assert!(rt; objects.len(0) == 65);
-    for name in 0..65u32 {
-        assert!(rt; objects.find_own(0, name) == Some(name));
-    }
+    expect_names(&rt, &mut objects, 0, 65);
     Ok(())
 }
 
@@ -92,12 +104,7 @@ fn an_object_is_slow_where_its_next_map_has_no_room(rt: HostRuntime) -> Result<(
     assert!(rt; shape_of(&rt, &mut objects, 0)? == Mode::Fast(3));
     give(&rt, &mut objects, 0, 3)?;
     assert!(rt; shape_of(&rt, &mut objects, 0)? == Mode::Slow(Cause::Space));
-    let there = 0 < objects.count();
-    assert!(rt; there);
-    assert!(rt; objects.len(0) == 4);
-    for name in 0..4u32 {
-        assert!(rt; objects.find_own(0, name) == Some(name));
-    }
+    expect_names(&rt, &mut objects, 0, 4);
     Ok(())
 }
 
