@@ -1,7 +1,10 @@
 pub mod Apart
 pub mod Breaks
 pub mod Content
+pub mod FieldsApart
+pub mod Fills
 pub mod FirstWord
+pub mod FormsApart
 pub mod Lines
 pub mod NamesAfter
 pub mod Numerals
@@ -11,3 +14,4 @@ pub mod Skipping
 pub mod Spelling
 pub mod Taking
 pub mod Turns
+pub mod WordsApart
