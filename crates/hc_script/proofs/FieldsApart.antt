@@ -65,16 +65,6 @@ goes_on_more all left others word so_far next on e takes = record {
       on.back d (subst (λ (words : List (List ℕ)). Gives so_far words d) (sym e) (next, takes, rest));
 }
 
--- a word that gives nothing further
-pub stops : (all left others : List (List ℕ)) (word : List ℕ) (so_far : Description) → GoesOn all left so_far → left ≡ word ∷ others → ((after : Description) → TakesField so_far word after → ⊥) → (d : Description) → Gives no_fields all d → ⊥
-stops all left others word so_far on e none d whole =
-    let left_gives : Gives so_far (word ∷ others) d = subst (λ (words : List (List ℕ)). Gives so_far words d) e (on.onward d whole) in
-    none left_gives.0 left_gives.1
-
--- the end
-pub ends : (all left : List (List ℕ)) (so_far : Description) → GoesOn all left so_far → left ≡ [] → Gives no_fields all so_far
-ends all left so_far on e = on.back so_far (subst (λ (words : List (List ℕ)). Gives so_far words so_far) (sym e) refl)
-
 -- a field in range keeps the others so
 with_given_range : (d : Description) (given : Given) → IsDescription d → IsGiven given → IsDescription (with_given d given)
 with_given_range d (given_value value) is more = record { value = more; getter = is.getter; setter = is.setter }
@@ -97,17 +87,3 @@ key_takes before word rest key after e new fills = record {
   new = rw fills.key_is new;
   after_is = fills.after_is;
 }
-
-pub no_key_takes : (before : Description) (word : List ℕ) → ((key : Key) (rest : List ℕ) → word ≡ key_word key ++ rest → ⊥) → (after : Description) → TakesField before word after → ⊥
-no_key_takes before word none after takes = none (key_of takes.given) (given_word takes.given) takes.spelling
-
-pub old_key_takes : (before : Description) (word rest : List ℕ) (key : Key) → word ≡ key_word key ++ rest → gives before key ≡ true → (after : Description) → TakesField before word after → ⊥
-old_key_takes before word rest key e old after takes =
-    let both : (key ≡ key_of takes.given) × (rest ≡ given_word takes.given) = keys_apart key (key_of takes.given) rest (given_word takes.given) (sym e ∙ takes.spelling) in
-    let new : gives before key ≡ false = rw both.0 takes.new in
-    let no : true ≡ false = sym old ∙ new in cc
-
-pub no_field_takes : (before : Description) (word rest : List ℕ) (key : Key) → word ≡ key_word key ++ rest → ((given : Given) → key_of given ≡ key → IsGiven given → rest ≡ given_word given → ⊥) → (after : Description) → TakesField before word after → ⊥
-no_field_takes before word rest key e none after takes =
-    let both : (key ≡ key_of takes.given) × (rest ≡ given_word takes.given) = keys_apart key (key_of takes.given) rest (given_word takes.given) (sym e ∙ takes.spelling) in
-    none takes.given (sym both.0) takes.is_given both.1

@@ -1,4 +1,5 @@
 pub mod Apart
+pub mod Asked
 pub mod Breaks
 pub mod Content
 pub mod FieldsApart
