@@ -186,9 +186,11 @@ fn a_definition_takes_its_fields_in_any_order(rt: HostRuntime) -> Result<(), Fai
 }
 
 #[test]
-fn other_words_are_refused_as_form_and_a_form_that_is_not_built_as_unbuilt(
-    rt: HostRuntime,
-) -> Result<(), Fail> {
+fn lines_without_a_form_and_unbuilt_ones_are_refused(rt: HostRuntime) -> Result<(), Fail> {
+    assert_eq!(rt;
+        first_answer(rt.alloc(), b"set #0 x null")?,
+        Ok(Some(Command::Set(0, 0, Value::Null)))
+    );
     let no_forms = [
         "new",
         "new x",
