@@ -1,5 +1,4 @@
 pub mod Listed
-pub mod Words
 pub mod Meaning
 pub mod State
 pub mod Changes

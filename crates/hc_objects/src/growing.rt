@@ -11,7 +11,7 @@ ghost use Rattle.hc_tree.specs.Tree.{IsTree, IsProperKey, gate_with, tagged_fiel
 ghost use Rattle.hc_objects.specs.Changes.{IsGrown, key_of};
 ghost use Rattle.hc_objects.specs.Filling.{IsMoved, MayGrowBy, slots_need};
 ghost use Rattle.hc_objects.specs.State.{AreHandedOut};
-ghost use Rattle.hc_objects.specs.Words.{IsHeldInRange};
+ghost use Rattle.hc_table.specs.Ranges.{IsHeldInRange};
 
 use crate::held::held_word;
 use crate::stores::{fill_next, slots_needed};

@@ -2,7 +2,7 @@
 ghost use Rattle.std.specs.Prelude.{◌≡◌};
 ghost use Rattle.hc_heap.specs.Lawful.{IsFormOf};
 ghost use Rattle.hc_objects.specs.Meaning.{held_in, datum_of, pair_of};
-ghost use Rattle.hc_objects.specs.Words.{IsHeldInRange};
+ghost use Rattle.hc_table.specs.Ranges.{IsHeldInRange};
 ghost use Rattle.hc_value.specs.Prop.{kind_of};
 ghost use Rattle.hc_value.specs.Word.{unwide_of, untagged_of, unpair_of, integer_of};
 ghost use Rattle.hc_value.specs.declared.field.Rep.TheVariants.{Tagged};

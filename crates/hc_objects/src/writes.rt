@@ -8,7 +8,7 @@ ghost use Rattle.hc_table.specs.Changes.{Added, Wrote, kind_at};
 ghost use Rattle.hc_table.specs.World.{object, props_at, place_of};
 ghost use Rattle.hc_objects.specs.Filling.{HasRoomFor};
 ghost use Rattle.hc_objects.specs.Meaning.{kept_of};
-ghost use Rattle.hc_objects.specs.Words.{IsHeldInRange};
+ghost use Rattle.hc_table.specs.Ranges.{IsHeldInRange};
 ghost use Rattle.hc_objects.specs.Came.{Steps, IsStill, world_of};
 
 use crate::fast::map_of;

@@ -1,13 +1,17 @@
 -- What a definition leaves may be kept.
-use Rattle.std.proofs.Common.{◌≡◌, ◌<◌, Bool, true, false, not, None, if◌then◌else◌, refl, arith}
+use Rattle.std.proofs.Common.{◌≡◌, ℕ, ◌<◌, Bool, true, false, not, Option, Some, None, if◌then◌else◌, refl, arith}
+use Rattle.std.specs.Prelude.{IfSome}
 use Rattle.hc_value.specs.Attrs.{bits_of, is_read_only}
+use Rattle.hc_value.specs.Word.{IsInRange}
+use Rattle.hc_value.specs.declared.value.Value.{Value}
 use Rattle.hc_value.specs.declared.value.Value.TheVariants.{Undefined}
 use Rattle.hc_value.specs.declared.prop.Held.{Held}
 use Rattle.hc_value.specs.declared.prop.Held.TheVariants.{Datum, Pair}
 use Rattle.hc_value.specs.declared.prop.Prop.{Prop}
 use Rattle.hc_value.specs.declared.prop.PropDesc.{PropDesc}
 use Rattle.hc_table.specs.Attributes.{attributes_of, is_dont_enum, is_dont_delete, IsClear, IsProper}
-use Rattle.hc_ops.specs.Define.{changed, given, held_after, read_only_after, is_data, is_accessor}
+use Rattle.hc_table.specs.Ranges.{IsFunctionInRange, IsHeldInRange}
+use Rattle.hc_ops.specs.Define.{changed, given, IsDescInRange, held_after, read_only_after, is_data, is_accessor}
 
 writable-of : (b c : Bool) → is_read_only (attributes_of false b c) ≡ false
 writable-of true true = refl
@@ -38,8 +42,29 @@ clear-after (Pair getter setter) read_only b c d = by (is_data d)
     by true = tt
     by false = writable-of b c
 
-pub IsProper-changed : (p : Prop) (d : PropDesc) → IsProper p → IsProper (changed p d)
-IsProper-changed p d h = record {
+-- a field that is given is in range, and so is what stands where it isn't
+value-given : (asked : Option Value) (now : Value) → IfSome asked IsInRange → IsInRange now → IsInRange (given asked now)
+value-given None now a n = n
+value-given (Some v) now a n = a
+
+function-given : (asked : Option (Option ℕ)) (now : Option ℕ) → IfSome asked IsFunctionInRange → IsFunctionInRange now → IsFunctionInRange (given asked now)
+function-given None now a n = n
+function-given (Some f) now a n = a
+
+range-after : (held : Held) (d : PropDesc) → IsHeldInRange held → IsDescInRange d → IsHeldInRange (held_after held d)
+range-after (Datum value) d h range = by (is_accessor d)
+  where
+    by : (t : Bool) → IsHeldInRange (if t then Pair (given d.getter None) (given d.setter None) else Datum (given d.value value))
+    by true = (function-given d.getter None range.getter tt, function-given d.setter None range.setter tt)
+    by false = value-given d.value value range.value h
+range-after (Pair getter setter) d h range = by (is_data d)
+  where
+    by : (t : Bool) → IsHeldInRange (if t then Datum (given d.value Undefined) else Pair (given d.getter getter) (given d.setter setter))
+    by true = value-given d.value Undefined range.value tt
+    by false = (function-given d.getter getter range.getter h.0, function-given d.setter setter range.setter h.1)
+
+pub IsProper-changed : (p : Prop) (d : PropDesc) → IsProper p → IsDescInRange d → IsProper (changed p d)
+IsProper-changed p d h range = record {
   name = h.name;
   attributes = below_eight
       (read_only_after p.held (is_read_only p.attrs) d)
@@ -48,4 +73,5 @@ IsProper-changed p d h = record {
   clear = clear-after p.held (is_read_only p.attrs)
       (not (given d.enumerable (not (is_dont_enum p.attrs))))
       (not (given d.configurable (not (is_dont_delete p.attrs)))) d;
+  range = range-after p.held d h.range range;
 }

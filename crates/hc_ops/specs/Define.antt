@@ -1,5 +1,5 @@
 -- What defining a property does (ECMA-262, 10.1.6.3, ValidateAndApplyPropertyDescriptor).
-use Rattle.std.specs.Prelude.{ℕ, Bool, true, false, ◌&&◌, ◌||◌, not, Option, Some, None, is_some, if◌then◌else◌, ◌==◌}
+use Rattle.std.specs.Prelude.{ℕ, Bool, true, false, ◌&&◌, ◌||◌, not, Option, Some, None, IfSome, is_some, if◌then◌else◌, ◌==◌}
 use Rattle.std.specs.Ordering.{int_eq}
 use Rattle.hc_value.specs.Attrs.{is_read_only}
 use Rattle.hc_value.specs.declared.value.Value.{Value}
@@ -8,8 +8,10 @@ use Rattle.hc_value.specs.declared.prop.Held.{Held}
 use Rattle.hc_value.specs.declared.prop.Held.TheVariants.{Datum, Pair}
 use Rattle.hc_value.specs.declared.prop.Prop.{Prop}
 use Rattle.hc_value.specs.declared.prop.PropDesc.{PropDesc}
+use Rattle.hc_value.specs.Word.{IsInRange}
 use Rattle.hc_table.specs.Attributes.{attributes_of, is_dont_enum, is_dont_delete}
 use Rattle.hc_table.specs.Changes.{Added, Reconfigured}
+use Rattle.hc_table.specs.Ranges.{IsFunctionInRange}
 use Rattle.hc_table.specs.World.{World, object, props_at}
 use Rattle.hc_ops.specs.declared.walk.Found.{Found}
 use Rattle.hc_ops.specs.Act.{Act, answers, does}
@@ -30,6 +32,12 @@ is_accessor d = is_some d.getter || is_some d.setter
 -- a definition is of one kind at most (6.2.6.5, step 10)
 abbrev pub mixes_kinds : PropDesc → Bool
 mixes_kinds d = is_data d && is_accessor d
+
+-- the value and the functions that a definition gives may be given to a word
+pub record IsDescInRange (d : PropDesc) : Type 0 where
+  pub value : IfSome d.value IsInRange
+  pub getter : IfSome d.getter IsFunctionInRange
+  pub setter : IfSome d.setter IsFunctionInRange
 
 -- what a property holds after a definition: fields that aren't given stay where the kind stays, and are undefined where
 -- it changes

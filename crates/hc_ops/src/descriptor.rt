@@ -2,7 +2,7 @@ ghost use Rattle.std.specs.Prelude.{◌≡◌, ◌<◌, false, None, length, IfO
 ghost use Rattle.hc_table.specs.Changes.{Moved, after};
 ghost use Rattle.hc_table.specs.Numbers.{IsNameNumber};
 ghost use Rattle.hc_table.specs.World.{props_at, place_of};
-ghost use Rattle.hc_ops.specs.Define.{changed as changed_by, blank as blank_of, is_data, is_accessor, mixes_kinds, held_after as held_then, read_only_after as read_only_then, same_value as are_same_values, same_function as are_same_functions, asks_flag as is_flag_asked, asks_value as is_value_asked, asks_function as is_function_asked, conflicts as conflicts_with, is_refused as refuses, define_new as define_new_act, define_act};
+ghost use Rattle.hc_ops.specs.Define.{changed as changed_by, blank as blank_of, is_data, is_accessor, mixes_kinds, IsDescInRange, held_after as held_then, read_only_after as read_only_then, same_value as are_same_values, same_function as are_same_functions, asks_flag as is_flag_asked, asks_value as is_value_asked, asks_function as is_function_asked, conflicts as conflicts_with, is_refused as refuses, define_new as define_new_act, define_act};
 
 use crate::walk::own_property;
 use hc_table::{Tables, attributes, dont_delete, dont_enum, read_only};
@@ -13,6 +13,7 @@ pub fn define<T: Tables>(t: &mut T, o: u32, name: u32, d: &PropDesc) -> Result<R
     requires object { o < length (T.world t.old) }
     requires name { IsNameNumber name }
     requires one_kind { mixes_kinds d.now ≡ false }
+    requires range { IsDescInRange d.now }
     ensures reply { IfOk result (λ reply. reply ≡ (define_act (T.world t.old) o name d.now).reply) }
     ensures world { OnOk result (T.world t.new ≡ after (define_act (T.world t.old) o name d.now).did (T.world t.old)) }
     ensures did { OnOk result (T.came t.old (define_act (T.world t.old) o name d.now).did t.new) }
@@ -35,6 +36,7 @@ fn define_new<T: Tables>(t: &mut T, o: u32, name: u32, d: &PropDesc) -> Result<R
     requires object { o < length (T.world t.old) }
     requires name { IsNameNumber name }
     requires absent { place_of (props_at (T.world t.old) o) name ≡ None }
+    requires range { IsDescInRange d.now }
     ensures reply { IfOk result (λ reply. reply ≡ (define_new_act (T.world t.old) o name d.now).reply) }
     ensures world { OnOk result (T.world t.new ≡ after (define_new_act (T.world t.old) o name d.now).did (T.world t.old)) }
     ensures did { OnOk result (T.came t.old (define_new_act (T.world t.old) o name d.now).did t.new) }

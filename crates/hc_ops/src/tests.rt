@@ -1,12 +1,49 @@
+ghost use Rattle.std.specs.Prelude.{◌≡◌, true, IfSome};
+ghost use Rattle.hc_table.specs.Ranges.{IsFunctionInRange};
+ghost use Rattle.hc_value.specs.Word.{IsInRange};
+ghost use Rattle.hc_ops.specs.Define.{IsDescInRange};
+
 use super::*;
 use hc_table::{Plain, Tables};
-use hc_value::{Held, Memory, Prop, PropDesc, Reply, Value};
+use hc_value::{Held, Memory, NUMBER_LIMIT, Prop, PropDesc, Reply, TEXT_LIMIT, Value};
 use std::alloc::Global;
 use std::process::Abort;
 use std::test::Fail;
 
 mod defining;
 mod rows;
+
+// Whether a value may be given to a word.
+fn value_fits(value: Value) -> bool
+    ensures { result ≡ true → IsInRange value }
+{
+    match value {
+        Value::Text(text) => text < TEXT_LIMIT,
+        Value::Obj(o) => o < NUMBER_LIMIT,
+        _ => true,
+    }
+}
+
+// Whether a function that is given may be given to a word.
+fn function_fits(given: Option<Option<u32>>) -> bool
+    ensures { result ≡ true → IfSome given IsFunctionInRange }
+{
+    match given {
+        Some(Some(function)) => function < NUMBER_LIMIT,
+        _ => true,
+    }
+}
+
+// Whether what a definition gives may be given to words.
+fn definition_fits(d: &PropDesc) -> bool
+    ensures { result ≡ true → IsDescInRange d.now }
+{
+    let fits = match d.value {
+        Some(value) => value_fits(value),
+        None => true,
+    };
+    fits && function_fits(d.getter) && function_fits(d.setter)
+}
 
 // Reads a property of an object that is there.
 fn read(rt: &impl Abort, plain: &mut Plain, o: u32, name: u32) -> Reply {
@@ -24,7 +61,7 @@ fn write(
     value: Value,
 ) -> Result<Reply, Memory> {
     let there = o < plain.count();
-    assert!(rt; there && name < 1_048_576);
+    assert!(rt; there && name < 1_048_576 && value_fits(value));
     set(plain, o, name, value)
 }
 
@@ -49,7 +86,7 @@ fn define_at(
     let there = o < plain.count();
     let mixed = (d.value.is_some() || d.writable.is_some())
         && (d.getter.is_some() || d.setter.is_some());
-    assert!(rt; there && name < 1_048_576 && !mixed);
+    assert!(rt; there && name < 1_048_576 && !mixed && definition_fits(d));
     define(plain, o, name, d)
 }
 

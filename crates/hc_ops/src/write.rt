@@ -3,6 +3,7 @@ ghost use Rattle.hc_table.specs.Attributes.{is_datum};
 ghost use Rattle.hc_table.specs.Changes.{Moved};
 ghost use Rattle.hc_table.specs.Numbers.{IsNameNumber};
 ghost use Rattle.hc_table.specs.World.{props_at, place_of};
+ghost use Rattle.hc_value.specs.Word.{IsInRange};
 ghost use Rattle.hc_ops.specs.Set.{set_outcome, create_outcome, nearest_outcome};
 ghost use Rattle.hc_ops.specs.SetDid.{set_did, create_did, nearest_did};
 
@@ -15,6 +16,7 @@ use hc_value::{Attrs, Held, Memory, Prop, Reply, Value};
 pub fn set<T: Tables>(t: &mut T, o: u32, name: u32, value: Value) -> Result<Reply, Memory>
     requires object { o < length (T.world t.old) }
     requires name { IsNameNumber name }
+    requires range { IsInRange value }
     ensures reply { IfOk result (λ reply. reply ≡ (set_outcome (T.world t.old) o name value).reply) }
     ensures world { OnOk result (T.world t.new ≡ (set_outcome (T.world t.old) o name value).world) }
     ensures did { OnOk result (T.came t.old (set_did (T.world t.old) o name value) t.new) }
@@ -36,6 +38,7 @@ pub fn set<T: Tables>(t: &mut T, o: u32, name: u32, value: Value) -> Result<Repl
 fn create<T: Tables>(t: &mut T, o: u32, name: u32, value: Value) -> Result<Reply, Memory>
     requires object { o < length (T.world t.old) }
     requires name { IsNameNumber name }
+    requires range { IsInRange value }
     requires absent { place_of (props_at (T.world t.old) o) name ≡ None }
     ensures reply { IfOk result (λ reply. reply ≡ (create_outcome (T.world t.old) o name value).reply) }
     ensures world { OnOk result (T.world t.new ≡ (create_outcome (T.world t.old) o name value).world) }
@@ -69,6 +72,7 @@ fn set_datum<T: Tables>(
 ) -> Result<Reply, Memory>
     requires object { o < length (T.world t.old) }
     requires name { IsNameNumber name }
+    requires range { IsInRange value }
     requires holder { spot.now.holder < length (T.world t.old) }
     requires place { place_of (props_at (T.world t.old) spot.now.holder) name ≡ Some spot.now.place }
     requires at { slice_get (props_at (T.world t.old) spot.now.holder) spot.now.place ≡ Some spot.now.property }

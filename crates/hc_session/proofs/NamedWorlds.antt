@@ -15,7 +15,9 @@ use Rattle.hc_ops.specs.Nearest.{Nearest, own_or_further, nearest_among, nearest
 use Rattle.hc_ops.specs.Get.{read_of, read_nearest, get_reply}
 use Rattle.hc_ops.specs.Set.{Outcome, with_value, create_outcome, writable_outcome, nearest_outcome, outcome_at}
 use Rattle.hc_value.specs.declared.reply.Reply.{Reply}
-use Rattle.hc_session.specs.State.{State, Does, Answer, is_there, proto_there, answer_to}
+use Rattle.hc_names.specs.declared.TheConstants.{MAX_NAMES}
+use Rattle.hc_value.specs.declared.word.TheConstants.{TEXT_LIMIT}
+use Rattle.hc_session.specs.State.{State, Does, Answer, HasNumbers, is_there, proto_there, answer_to}
 use Rattle.hc_session.specs.Named.{IsNamedHeld, AreNamedProps, IsNamedWorld, IsShown}
 use Rattle.hc_script.specs.Grammar.{IsValueBelow, IsCommandBelow}
 
@@ -27,6 +29,12 @@ value_kept count more Null grows named = tt
 value_kept count more (Boolean b) grows named = tt
 value_kept count more (Int integer) grows named = tt
 value_kept count more (Obj o) grows named = tt
+
+-- among the names there are, numbers are such that a word can hold them
+pub numbers_held : (count : ℕ) (command : Command) → count ≤ MAX_NAMES → IsCommandBelow count command → HasNumbers command
+numbers_held count (New proto) few below = tt
+numbers_held count (Get o name) few below = omega (arith, few, below)
+numbers_held count (Set o name value) few below = (omega (arith, few, below.0), value_kept count TEXT_LIMIT value (omega (arith, few)) below.1)
 
 held_kept : (count more : ℕ) (held : Held) → count ≤ more → IsNamedHeld count held → IsNamedHeld more held
 held_kept count more (Datum value) grows named = value_kept count more value grows named

@@ -4,10 +4,12 @@ use Rattle.hc_value.specs.declared.reply.Reply.{Reply}
 use Rattle.hc_value.specs.declared.reply.Reply.TheVariants.{Object, NoObject, Full}
 use Rattle.hc_value.specs.declared.value.Value.{Value}
 use Rattle.hc_value.specs.declared.value.Value.TheVariants.{Undefined, Null, Bool as Boolean, Int, Text, Obj}
+use Rattle.hc_value.specs.declared.word.TheConstants.{TEXT_LIMIT}
 use Rattle.hc_table.specs.Numbers.{IsNameNumber}
 use Rattle.hc_table.specs.World.{World, with_object}
 use Rattle.hc_ops.specs.Get.{get_reply}
 use Rattle.hc_ops.specs.Set.{Outcome, set_outcome}
+use Rattle.hc_script.specs.Grammar.{IsValueBelow}
 use Rattle.hc_script.specs.declared.command.Command.{Command}
 use Rattle.hc_script.specs.declared.command.Command.TheVariants.{New, Get, Set}
 
@@ -78,8 +80,8 @@ IsBuilt (New proto) = proto ≡ None
 IsBuilt (Get o name) = Unit {0}
 IsBuilt (Set o name value) = Unit {0}
 
--- names have numbers that a word can hold
+-- names and texts have numbers that a word can hold
 abbrev pub HasNumbers : Command → Type 0
 HasNumbers (New proto) = Unit {0}
 HasNumbers (Get o name) = IsNameNumber name
-HasNumbers (Set o name value) = IsNameNumber name
+HasNumbers (Set o name value) = IsNameNumber name × IsValueBelow TEXT_LIMIT value

@@ -1,4 +1,7 @@
-ghost use Rattle.std.specs.Prelude.{◌≡◌, None, IfOk, OnErr, nat_lt, length};
+ghost use Rattle.std.specs.Prelude.{◌≡◌, ◌≤◌, true, None, IfOk, OnErr, nat_lt, length};
+ghost use Rattle.hc_value.specs.Word.{IsInRange};
+ghost use Rattle.hc_value.specs.declared.word.TheConstants.{TEXT_LIMIT, NUMBER_LIMIT};
+ghost use Rattle.hc_script.specs.Grammar.{IsValueBelow};
 ghost use Rattle.hc_script.specs.declared.command.Command.TheVariants.{New};
 ghost use Rattle.hc_session.specs.State.{IsBuilt, HasNumbers, Does, names_there};
 
@@ -11,6 +14,7 @@ use hc_value::{Memory, Reply, Value};
 pub fn perform<T: Tables>(tables: &mut T, command: &Command) -> Result<Reply, Memory>
     requires built { IsBuilt command.now }
     requires numbers { HasNumbers command.now }
+    requires few { T.limit tables.old ≤ NUMBER_LIMIT }
     ensures done { IfOk result (λ reply. Does (record { world = T.world tables.old; limit = T.limit tables.old })
         command.now reply (record { world = T.world tables.new; limit = T.limit tables.new })) }
     ensures err { OnErr result (T.world tables.new ≡ T.world tables.old) }
@@ -50,15 +54,19 @@ fn create<T: Tables>(tables: &mut T) -> Result<Reply, Memory>
 // Whether an object is there.
 fn is_object<T: Tables>(tables: &mut T, o: u32) -> bool
     ensures there { result ≡ nat_lt o (length (T.world tables.old)) }
+    ensures room { length (T.world tables.old) ≤ T.limit tables.old }
     ensures same { T.world tables.new ≡ T.world tables.old }
     ensures limit { T.limit tables.new ≡ T.limit tables.old }
 {
     o < tables.count()
 }
 
-// Whether the object that a value names is there.
+// Whether the object that a value names is there, and a word can hold the value then.
 fn is_value_there<T: Tables>(tables: &mut T, value: &Value) -> bool
+    requires text { IsValueBelow TEXT_LIMIT value.now }
+    requires few { T.limit tables.old ≤ NUMBER_LIMIT }
     ensures there { result ≡ names_there (record { world = T.world tables.old; limit = T.limit tables.old }) value.now }
+    ensures range { result ≡ true → IsInRange value.now }
     ensures same { T.world tables.new ≡ T.world tables.old }
     ensures limit { T.limit tables.new ≡ T.limit tables.old }
 {

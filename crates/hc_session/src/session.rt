@@ -29,11 +29,11 @@ impl<P: Drop> Model for Session<P> {
     ghost Value = { Standing };
 
     ghost use Rattle.std.specs.Prelude.{not};
-    ghost use Rattle.hc_session.specs.Fresh.{IsFreshOnlyEmpty};
+    ghost use Rattle.hc_session.specs.Fresh.{IsSession};
 
     ghost view = { λ s. record { state = record { world = s.tables.world; limit = s.tables.limit }; fresh = not s.begun } };
 
-    ghost invariant = { λ s. IsFreshOnlyEmpty s.tables.world s.begun };
+    ghost invariant = { λ s. IsSession s.tables s.begun };
 }
 
 impl Session<Scripted> {

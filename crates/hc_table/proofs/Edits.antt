@@ -9,6 +9,7 @@ use Rattle.hc_value.specs.declared.prop.Held.TheVariants.{Datum, Pair}
 use Rattle.hc_value.specs.declared.prop.Prop.{Prop}
 use Rattle.hc_table.specs.Attributes.{attributes_of, is_datum, is_dont_enum, IsClear, IsProper, restricted}
 use Rattle.hc_table.specs.Changes.{name_at, kind_at, removed_at}
+use Rattle.hc_table.specs.Ranges.{IsHeldInRange}
 use Rattle.hc_table.specs.World.{place_of, held_at, HaveDistinctNames}
 use Rattle.hc_table.proofs.Properties.{absent_first, absent_more, names}
 
@@ -60,18 +61,19 @@ clear-kind (Datum value) (Pair getter setter) attrs e c = absurd (cc)
 clear-kind (Pair g s) (Datum value) attrs e c = tt
 clear-kind (Pair g s) (Pair getter setter) attrs e c = c
 
-pub proper-held_at : (ps : List Prop) (i : ℕ) (held : Held) → kind_at ps i ≡ Some (kind_of held) → AllByRecursion IsProper ps → AllByRecursion IsProper (held_at ps i held)
-proper-held_at [] i held k all = tt
-proper-held_at (p ∷ ps) zero held k all =
+pub proper-held_at : (ps : List Prop) (i : ℕ) (held : Held) → kind_at ps i ≡ Some (kind_of held) → IsHeldInRange held → AllByRecursion IsProper ps → AllByRecursion IsProper (held_at ps i held)
+proper-held_at [] i held k range all = tt
+proper-held_at (p ∷ ps) zero held k range all =
     let proper = all.0 in (
       record {
         name = proper.name;
         attributes = proper.attributes;
         clear = clear-kind p.held held p.attrs (same_some (kind_of p.held) (kind_of held) k) proper.clear;
+        range = range;
       },
       all.1,
     )
-proper-held_at (p ∷ ps) (suc i) held k all = (all.0, proper-held_at ps i held k all.1)
+proper-held_at (p ∷ ps) (suc i) held k range all = (all.0, proper-held_at ps i held k range all.1)
 
 pub within-name : (ps : List Prop) (i n : ℕ) → name_at ps i ≡ Some n → i < length ps
 within-name [] i n h = absurd (cc)
@@ -137,6 +139,7 @@ proper-restricted frozen p h = record {
   name = h.name;
   attributes = below_eight (is_read_only p.attrs || (frozen && is_datum p.held)) (is_dont_enum p.attrs) true;
   clear = clear p.held h.clear;
+  range = h.range;
 }
   where
     clear : (held : Held) → IsClear held p.attrs → IsClear held (attributes_of (is_read_only p.attrs || (frozen && is_datum held)) (is_dont_enum p.attrs) true)

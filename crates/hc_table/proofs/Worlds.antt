@@ -10,6 +10,7 @@ use Rattle.hc_table.specs.Attributes.{IsProper, restricted}
 use Rattle.hc_table.specs.Changes.{IsThere, name_at, kind_at, removed_at, reaches, with_link, locked, restricted_object, with_property, with_removed, with_proto, with_lock, with_integrity}
 use Rattle.hc_table.specs.Changes.{Did, Nothing, Moved, Created, Added, Wrote, Reconfigured, Removed, Linked, Locked, Restricted, after}
 use Rattle.hc_table.specs.Kept.{Kept, IsKept, Came, MayDo, with_world}
+use Rattle.hc_table.specs.Ranges.{IsHeldInRange}
 use Rattle.hc_table.specs.World.{Object, World, object, new_object, props_at, place_of, with_list, with_object, with_added, with_written, held_at, IsWorld, HaveDistinctNames, LeadsToNull}
 use Rattle.hc_table.proofs.Chains.{none, more, along, avoids, linked}
 use Rattle.hc_table.proofs.Edits.{distinct-same_names, names-set, All-set, proper-held_at, distinct-removed, proper-removed, All-restricted, names-restricted}
@@ -102,12 +103,12 @@ module _ (kept : Kept) (h : IsKept kept) (o : ℕ) where
       (HaveDistinctNames-push ps p (h.sound.names o) absent)
       (AllByRecursion-push IsProper ps p (h.proper o) proper)
 
-  pub IsKept-with_written : (i : ℕ) (held : Held) → kind_at (props_at kept.world o) i ≡ Some (kind_of held) → IsKept (with_world kept (with_written kept.world o i held))
-  IsKept-with_written i held kind =
+  pub IsKept-with_written : (i : ℕ) (held : Held) → kind_at (props_at kept.world o) i ≡ Some (kind_of held) → IsHeldInRange held → IsKept (with_world kept (with_written kept.world o i held))
+  IsKept-with_written i held kind range =
       let ps = props_at kept.world o in
       IsKept-set kept h o (with_list (object kept.world o) (held_at ps i held)) refl
       (HaveDistinctNames-held_at ps i held (h.sound.names o))
-      (proper-held_at ps i held kind (h.proper o))
+      (proper-held_at ps i held kind range (h.proper o))
 
   pub IsKept-with_property : (i : ℕ) (p : Prop) → name_at (props_at kept.world o) i ≡ Some p.name → IsProper p → IsKept (with_world kept (with_property kept.world o i p))
   IsKept-with_property i p name proper =
@@ -226,7 +227,7 @@ changes-keep kept Nothing h may = h
 changes-keep kept Moved h may = h
 changes-keep kept (Created proto) h may = IsKept-with_object kept h proto may.0 may.1
 changes-keep kept (Added o p) h may = IsKept-with_added kept h o p may.0 may.1
-changes-keep kept (Wrote o i held) h may = IsKept-with_written kept h o i held may
+changes-keep kept (Wrote o i held) h may = IsKept-with_written kept h o i held may.0 may.1
 changes-keep kept (Reconfigured o i p) h may = IsKept-with_property kept h o i p may.0 may.1
 changes-keep kept (Removed o i) h may = IsKept-with_removed kept h o i
 changes-keep kept (Linked o proto) h may = IsKept-with_proto kept h o proto may.0 may.1 may.2

@@ -7,6 +7,7 @@ use Rattle.hc_value.specs.declared.prop.Held.{Held}
 use Rattle.hc_value.specs.declared.prop.Held.TheVariants.{Datum, Pair}
 use Rattle.hc_value.specs.declared.prop.Prop.{Prop}
 use Rattle.hc_table.specs.Numbers.{IsNameNumber}
+use Rattle.hc_table.specs.Ranges.{IsHeldInRange}
 
 -- not enumerable
 abbrev pub is_dont_enum : Attrs → Bool
@@ -34,11 +35,13 @@ abbrev pub IsClear : Held → Attrs → Type 0
 IsClear (Datum value) attrs = Unit {0}
 IsClear (Pair getter setter) attrs = is_read_only attrs ≡ false
 
--- a property that may be kept: its name has a number, it has the three attributes alone, and an accessor isn't read-only
+-- a property that may be kept: its name has a number, it has the three attributes alone, an accessor isn't read-only, and
+-- a word can hold what the property holds
 pub record IsProper (p : Prop) : Type 0 where
   pub name : IsNameNumber p.name
   pub attributes : bits_of p.attrs < 8
   pub clear : IsClear p.held p.attrs
+  pub range : IsHeldInRange p.held
 
 -- a property of an object whose integrity is set (ECMA-262, 7.3.16, SetIntegrityLevel): not configurable, and where it is
 -- frozen and holds a value, not writable either

@@ -4,6 +4,7 @@ use Rattle.std.specs.List.{AllByRecursion}
 use Rattle.hc_value.specs.Prop.{kind_of}
 use Rattle.hc_table.specs.Attributes.{IsProper}
 use Rattle.hc_table.specs.Changes.{Did, Nothing, Moved, Created, Added, Wrote, Reconfigured, Removed, Linked, Locked, Restricted, after, IsThere, name_at, kind_at, reaches}
+use Rattle.hc_table.specs.Ranges.{IsHeldInRange}
 use Rattle.hc_table.specs.World.{World, IsWorld, props_at, place_of}
 
 pub record Kept : Type 0 where
@@ -31,7 +32,7 @@ MayDo kept Nothing = ⊤
 MayDo kept Moved = ⊤
 MayDo kept (Created proto) = IsThere kept.world proto × (length kept.world < kept.limit)
 MayDo kept (Added o p) = (place_of (props_at kept.world o) p.name ≡ None) × IsProper p
-MayDo kept (Wrote o i held) = kind_at (props_at kept.world o) i ≡ Some (kind_of held)
+MayDo kept (Wrote o i held) = (kind_at (props_at kept.world o) i ≡ Some (kind_of held)) × IsHeldInRange held
 MayDo kept (Reconfigured o i p) = (name_at (props_at kept.world o) i ≡ Some p.name) × IsProper p
 MayDo kept (Removed o i) = ⊤
 MayDo kept (Linked o proto) = (o < length kept.world) × IsThere kept.world proto × (reaches kept.world proto o ≡ false)

@@ -4,4 +4,5 @@ pub mod Kept
 pub mod Laws
 pub mod Numbers
 pub mod Plain
+pub mod Ranges
 pub mod World

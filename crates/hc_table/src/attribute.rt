@@ -44,8 +44,8 @@ fn holds_datum(held: Held) -> bool
     matches!(held, Held::Datum(_))
 }
 
-// A property of an object that is sealed or frozen.
-pub(crate) fn restrict(p: Prop, frozen: bool) -> Prop
+/// A property of an object that is sealed or frozen.
+pub fn restrict(p: Prop, frozen: bool) -> Prop
     ensures { result ≡ restricted frozen p }
 {
     let fixed = read_only(p.attrs) || frozen && holds_datum(p.held);

@@ -8,7 +8,7 @@ mod laws;
 mod plain;
 mod tables;
 
-pub use attribute::{attributes, dont_delete, dont_enum, read_only};
+pub use attribute::{attributes, dont_delete, dont_enum, read_only, restrict};
 pub use fault::TableFault;
 pub use laws::changes_keep;
 pub use plain::Plain;

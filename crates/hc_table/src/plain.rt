@@ -5,8 +5,7 @@ ghost use Rattle.hc_table.specs.Changes.{removed_at, with_link, locked, restrict
 ghost use Rattle.hc_table.specs.Plain.{object_of};
 ghost use Rattle.hc_table.specs.World.{IsWorld, object, props_at, with_list, held_at};
 
-use crate::attribute::restrict;
-use crate::{TableFault, Tables};
+use crate::{TableFault, Tables, restrict};
 use hc_value::{Held, Memory, Prop};
 use std::alloc::Global;
 use std::marker::Model;

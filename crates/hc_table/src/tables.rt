@@ -1,6 +1,7 @@
-ghost use Rattle.std.specs.Prelude.{◌≡◌, ◌↔◌, ℕ, ◌<◌, true, false, None, Some, length, slice_get, IfOk, OnOk, OnErr, IsErrOf};
+ghost use Rattle.std.specs.Prelude.{◌≡◌, ◌↔◌, ℕ, ◌<◌, ◌≤◌, true, false, None, Some, length, slice_get, IfOk, OnOk, OnErr, IsErrOf};
 ghost use Rattle.hc_table.specs.Attributes.{IsProper};
 ghost use Rattle.hc_table.specs.Changes.{Did, Nothing, Moved, Created, Added, Wrote, Reconfigured, Removed, Linked, Locked, Restricted, IsThere, name_at, kind_at, reaches, with_property, with_removed, with_proto, with_lock, with_integrity};
+ghost use Rattle.hc_table.specs.Ranges.{IsHeldInRange};
 ghost use Rattle.hc_table.specs.World.{World, IsWorld, object, props_at, place_of, with_object, with_added, with_written};
 ghost use Rattle.hc_value.specs.Prop.{kind_of};
 
@@ -23,6 +24,7 @@ pub trait Tables {
     /// How many objects there are.
     fn count(&mut self) -> u32
         ensures count { result ≡ length (world self.old) }
+        ensures room { length (world self.old) ≤ limit self.old }
         ensures same { world self.new ≡ world self.old }
         ensures same_limit { limit self.new ≡ limit self.old }
         ensures still { came self.old Nothing self.new }
@@ -103,6 +105,7 @@ pub trait Tables {
     fn write(&mut self, o: u32, i: u32, held: Held) -> Result<(), Memory>
         requires object { o < length (world self.old) }
         requires kind { kind_at (props_at (world self.old) o) i ≡ Some (kind_of held) }
+        requires range { IsHeldInRange held }
         ensures written { OnOk result (world self.new ≡ with_written (world self.old) o i held) }
         ensures did { OnOk result (came self.old (Wrote o i held) self.new) }
         ensures err { OnErr result (world self.new ≡ world self.old) }

@@ -16,8 +16,8 @@ fn add(rt: &impl Abort, plain: &mut Plain, o: u32, name: u32, n: i64) -> Result<
     plain.add(o, Prop { name, attrs, held })
 }
 
-// Writes the data property at a place, where it is there.
-fn put(rt: &impl Abort, plain: &mut Plain, o: u32, i: u32, value: Value) -> Result<(), Memory> {
+// Writes null to the data property at a place, where it is there.
+fn put_null(rt: &impl Abort, plain: &mut Plain, o: u32, i: u32) -> Result<(), Memory> {
     let there = o < plain.count();
     assert!(rt; there);
     let len = plain.len(o);
@@ -26,7 +26,7 @@ fn put(rt: &impl Abort, plain: &mut Plain, o: u32, i: u32, value: Value) -> Resu
     let Held::Datum(_) = p.held else {
         return Ok(());
     };
-    plain.write(o, i, Held::Datum(value))
+    plain.write(o, i, Held::Datum(Value::Null))
 }
 
 // What the object's property of the name holds.
@@ -55,7 +55,7 @@ fn properties_stand_in_order_and_are_written_in_place(rt: HostRuntime) -> Result
     assert_eq!(rt; plain.len(0), 2);
     assert_eq!(rt; plain.find_own(0, 3), Some(1));
     assert_eq!(rt; plain.find_own(0, 4), None);
-    put(&rt, &mut plain, 0, 1, Value::Null)?;
+    put_null(&rt, &mut plain, 0, 1)?;
     assert_eq!(rt; held(&rt, &mut plain, 0, 3), Some(Held::Datum(Value::Null)));
     let seventy = Num::new(70).expect(&rt, "in range");
     assert_eq!(rt;

@@ -5,4 +5,4 @@ use Rattle.hc_ops.proofs.descriptor.define.Goals as goal
 
 pub reconfigure-requires-clause-proper : goal.reconfigure-requires-clause-proper
 reconfigure-requires-clause-proper g c =
-    subst IsProper (sym c.changed.ensures) (IsProper-changed c.in-Some.own.property c.args.d.now c.in-Some.ensures.proper)
+    subst IsProper (sym c.changed.ensures) (IsProper-changed c.in-Some.own.property c.args.d.now c.in-Some.ensures.proper c.requires.range)

@@ -26,7 +26,7 @@ pub invariant_of-self : goal.invariant_of-self
 invariant_of-self c =
     let kept = kept_by c.self.inside.objects.items c.self.inside.limit in
     let kind = subst (λ (k : Kept). kind_at (props_at k.world c.args.o) c.args.i ≡ Some (kind_of c.args.held)) (sym c.self.view_is) c.requires.kind in
-    subst (λ (w : World). IsKept (with_world kept w)) (sym (changed c)) (IsKept-with_written kept c.self.invariant c.args.o c.args.i c.args.held kind)
+    subst (λ (w : World). IsKept (with_world kept w)) (sym (changed c)) (IsKept-with_written kept c.self.invariant c.args.o c.args.i c.args.held kind c.requires.range)
 
 pub returns-clause-did : goal.returns-clause-did
 returns-clause-did c =

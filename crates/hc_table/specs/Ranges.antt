@@ -1,4 +1,4 @@
--- What a slot may hold.
+-- What a word can hold.
 use Rattle.std.specs.Prelude.{ℕ, ◌<◌, Option, IfSome}
 use Rattle.hc_value.specs.Word.{IsInRange}
 use Rattle.hc_value.specs.declared.word.TheConstants.{NUMBER_LIMIT}
