@@ -1,5 +1,5 @@
 -- Words give the fields of one definition at most.
-use Rattle.std.proofs.Common.{◌≡◌, ℕ, true, false, List, [], ◌∷◌, ◌++◌, refl, sym, ap, ◌∙◌, arith, subst}
+use Rattle.std.proofs.Common.{◌≡◌, ℕ, false, List, [], ◌∷◌, ◌++◌, refl, sym, ap, ◌∙◌, arith, subst}
 use Rattle.hc_script.specs.Definition.{Given, given_value, given_writable, given_getter, given_setter, given_enumerable, given_configurable, IsGiven, key_of, key_word, given_word, field_word, Description, IsDescription, no_fields, gives, with_given, Fills, TakesField, Gives}
 use Rattle.hc_script.specs.declared.definition.Key.{Key}
 use Rattle.hc_script.specs.declared.definition.Key.TheVariants.{Value, Writable, Getter, Setter, Enumerable, Configurable}

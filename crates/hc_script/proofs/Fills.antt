@@ -1,5 +1,5 @@
 -- What was read behind a key gives its field.
-use Rattle.std.proofs.Common.{◌≡◌, ℕ, true, false, List, refl, Option, Some, None, IfSome}
+use Rattle.std.proofs.Common.{◌≡◌, ℕ, true, List, refl, Option, Some, None, IfSome}
 use Rattle.std.specs.Prelude.{Bool}
 use Rattle.hc_script.specs.Values.{IsWrittenValue, value_word, boolean_word}
 use Rattle.hc_script.specs.Token.{IsAccessor, accessor_word}

@@ -1,17 +1,14 @@
 -- Words are those of one form at most.
-use Rattle.std.proofs.Common.{◌≡◌, ℕ, ◌<◌, ◌^◌, List, [], ◌∷◌, refl, sym, ap, ◌∙◌, arith, Option, Some, None, IfNone}
+use Rattle.std.proofs.Common.{◌≡◌, ℕ, List, ◌∷◌, refl, sym, ap, ◌∙◌, arith, Option, Some, None, IfNone}
 use Rattle.std.specs.Fmt.{decimal}
 use Rattle.hc_script.specs.Values.{WrittenValue, IsGivenValue, value_word, object_word}
 use Rattle.hc_script.specs.Token.{prototype_word, op_word, reads_word}
-use Rattle.hc_script.specs.Definition.{Description, no_fields, Gives}
+use Rattle.hc_script.specs.Definition.{no_fields, Gives}
 use Rattle.hc_script.specs.Verbs.{verb_word}
 use Rattle.hc_script.specs.Grammar.{Form, new_object, link_prototype, ask_property, set_value, define_property, ask_object, compare_objects, declare_site, execute_site, compile_site, step_job, step_during, finish_job, verb_of, IsForm, given_words, AreParts, IsSpelled, HaveNoForm}
 use Rattle.hc_script.specs.Request.{HaveNoParts}
 use Rattle.hc_script.specs.declared.grammar.Request.{Request}
-use Rattle.hc_script.specs.declared.verb.PropertyVerb.{PropertyVerb}
-use Rattle.hc_script.specs.declared.verb.ObjectVerb.{ObjectVerb}
 use Rattle.hc_script.specs.declared.verb.Verb.{Verb}
-use Rattle.hc_script.specs.declared.verb.Verb.TheVariants.{OfProperty, OfObject}
 use Rattle.hc_script.proofs.Apart.{values_apart, same_object}
 use Rattle.hc_script.proofs.WordsApart.{verbs_apart, same_number, prototypes_apart, ops_apart, reads_apart}
 use Rattle.hc_script.proofs.FieldsApart.{gives_apart}

@@ -1,12 +1,12 @@
 -- A word is the first of one command at most, and names one thing at most behind it.
-use Rattle.std.proofs.Common.{◌≡◌, ℕ, ◌<◌, ◌≤◌, ◌^◌, true, false, List, [], ◌∷◌, refl, sym, ap, ◌∙◌, arith, if◌then◌else◌, Option, Some, None}
+use Rattle.std.proofs.Common.{◌≡◌, ℕ, ◌<◌, ◌≤◌, ◌^◌, true, false, List, refl, sym, ap, ◌∙◌, arith, if◌then◌else◌, Option, Some, None}
 use Rattle.std.specs.Prelude.{Bool, codes}
 use Rattle.std.specs.Str.{bytes_eq}
 use Rattle.std.specs.Fmt.{decimal}
 use Rattle.std.proofs.lemmas.Fmt.{decimal_injective}
 use Rattle.hc_script.specs.Numeral.{all_digits}
 use Rattle.hc_script.specs.Values.{boolean_word}
-use Rattle.hc_script.specs.Token.{IsPrototype, prototype_word, IsFunction, IsAccessor, accessor_word, op_word, AreReads, reads_word}
+use Rattle.hc_script.specs.Token.{IsPrototype, prototype_word, IsAccessor, accessor_word, op_word, AreReads, reads_word}
 use Rattle.hc_script.specs.Verbs.{verb_word}
 use Rattle.hc_script.specs.declared.command.Op.{Op}
 use Rattle.hc_script.specs.declared.command.Op.TheVariants.{Load, Store}

@@ -12,7 +12,7 @@ use Rattle.hc_script.specs.declared.verb.Verb.{Verb}
 use Rattle.hc_script.specs.declared.verb.Verb.TheVariants.{New, SetProto, OfProperty, Set, Define, OfObject, Same, Site, Exec, Compile, Step, During, Finish}
 use Rattle.hc_script.specs.Values.{IsName, WrittenValue, IsWrittenValue, IsGivenValue, written_undefined, written_null, written_boolean, written_integer, written_text, written_object, object_word, value_word}
 use Rattle.hc_script.specs.Token.{IsPrototype, prototype_word, op_word, AreReads, reads_word, IsDistance}
-use Rattle.hc_script.specs.Definition.{Description, IsDescription, mixes_kinds, no_fields, Gives}
+use Rattle.hc_script.specs.Definition.{Description, mixes_kinds, no_fields, Gives}
 use Rattle.hc_script.specs.Grammar.{Form, new_object, link_prototype, ask_property, set_value, define_property, ask_object, compare_objects, declare_site, execute_site, compile_site, step_job, step_during, finish_job, verb_of, IsForm, AreParts, given_words}
 
 abbrev pub written_of : Written → WrittenValue
