@@ -1,6 +1,6 @@
--- Words are those of one form at most.
-use Rattle.std.proofs.Common.{◌≡◌, ℕ, suc, ◌+◌, ◌*◌, ◌<◌, ◌≤◌, ◌^◌, true, false, List, [], ◌∷◌, ◌++◌, length, refl, sym, ap, ◌∙◌, arith, if◌then◌else◌, ◌==◌}
-use Rattle.std.specs.Prelude.{ℤ, pos, negsuc, codes}
+-- A word is that of one value at most.
+use Rattle.std.proofs.Common.{◌≡◌, ℕ, suc, ◌<◌, ◌≤◌, ◌^◌, true, false, List, [], ◌∷◌, ◌++◌, length, refl, sym, ap, ◌∙◌, arith, if◌then◌else◌, ◌==◌}
+use Rattle.std.specs.Prelude.{ℤ, pos, negsuc}
 use Rattle.std.specs.Int.Signed.{mag}
 use Rattle.std.specs.Fmt.{decimal, signed_decimal}
 use Rattle.std.proofs.lemmas.Fmt.{decimal_injective, signed_decimal_injective}
@@ -8,18 +8,14 @@ use Rattle.std.proofs.lemmas.Int.{ints}
 use Rattle.std.proofs.lemmas.Bool.Decides.{nat_tests}
 use Rattle.hc_value.specs.Num.{IsSafeInteger}
 use Rattle.hc_script.specs.Numeral.{all_digits}
-use Rattle.hc_script.specs.Grammar.{WrittenValue, written_undefined, written_null, written_boolean, written_integer, written_text, written_object, IsWrittenValue, value_word, object_word, text_word, Form, new_object, get_property, set_value, IsForm, words_for}
-use Rattle.hc_script.specs.Later.{AreUnbuilt, later_word}
-use Rattle.hc_script.specs.declared.later.Later.{Later}
-use Rattle.hc_script.specs.declared.later.Later.TheVariants.{Has}
+use Rattle.hc_script.specs.Values.{WrittenValue, written_undefined, written_null, written_boolean, written_integer, written_text, written_object, IsWrittenValue, value_word, object_word, text_word}
 use Rattle.hc_script.proofs.Numerals.{decimal_is_digits}
-use mathlib.Core.Logic.{inl, inr}
 
-abbrev first_byte : List ℕ → ℕ
+abbrev pub first_byte : List ℕ → ℕ
 first_byte [] = 0
 first_byte (byte ∷ bytes) = byte
 
-differ : (a b : ℕ) → a ≡ b → (a == b) ≡ false → ⊥
+pub differ : (a b : ℕ) → a ≡ b → (a == b) ≡ false → ⊥
 differ a b e other = grind (arith, nat_tests)
 
 -- which kind of value it is
@@ -69,7 +65,7 @@ word_kind (written_integer z) is = integer_kind z is
 same_kind : (v w : WrittenValue) → IsWrittenValue v → IsWrittenValue w → value_word v ≡ value_word w → kind v ≡ kind w
 same_kind v w is_v is_w e = sym (word_kind v is_v) ∙ ap kind_of_word e ∙ word_kind w is_w
 
-same_object : (o p : ℕ) → o < 2 ^ 32 → p < 2 ^ 32 → object_word o ≡ object_word p → o ≡ p
+pub same_object : (o p : ℕ) → o < 2 ^ 32 → p < 2 ^ 32 → object_word o ≡ object_word p → o ≡ p
 same_object o p small_o small_p e = let digits : decimal o ≡ decimal p = cc in decimal_injective o p (omega arith) (omega arith) digits
 
 -- what stands before one more byte
@@ -109,57 +105,3 @@ values_apart (written_integer y) (written_integer z) is_v is_w e = ap written_in
 values_apart (written_text a) (written_text b) is_v is_w e = ap written_text (same_text a b e)
 values_apart (written_object o) (written_object p) is_v is_w e = ap written_object (same_object o p is_v is_w e)
 values_apart v w is_v is_w e = absurd (let k : kind v ≡ kind w = same_kind v w is_v is_w e in omega arith)
-
-pub forms_apart : (f g : Form) → IsForm f → IsForm g → words_for f ≡ words_for g → f ≡ g
-forms_apart new_object new_object is_f is_g e = refl
-forms_apart (get_property o name) (get_property p title) is_f is_g e =
-    let words : object_word o ≡ object_word p = cc in
-    let object : o ≡ p = same_object o p is_f.0 is_g.0 words in
-    let names : name ≡ title = cc in
-    rw (object, names) refl
-forms_apart (set_value o name v) (set_value p title w) is_f is_g e =
-    let words : object_word o ≡ object_word p = cc in
-    let object : o ≡ p = same_object o p is_f.0 is_g.0 words in
-    let names : name ≡ title = cc in
-    let value_words : value_word v ≡ value_word w = cc in
-    let values : v ≡ w = values_apart v w is_f.2 is_g.2 value_words in
-    rw (object, names, values) refl
-forms_apart f g is_f is_g e = absurd (cc)
-
--- the length of the first word and its first byte
-abbrev first_code : List (List ℕ) → ℕ
-first_code [] = 0
-first_code (word ∷ words) = length word + 100 * first_byte word
-
-abbrev second_byte : List (List ℕ) → ℕ
-second_byte [] = 0
-second_byte (word ∷ []) = 0
-second_byte (word ∷ next ∷ words) = first_byte next
-
--- no built command begins with the word of another
-new_built : (command : Later) → first_code (codes "new" ∷ []) ≡ first_code (later_word command ∷ []) → ⊥
-new_built Has e = omega arith
-new_built command e = omega arith
-
-get_built : (command : Later) → first_code (codes "get" ∷ []) ≡ first_code (later_word command ∷ []) → ⊥
-get_built Has e = omega arith
-get_built command e = omega arith
-
-set_built : (command : Later) → first_code (codes "set" ∷ []) ≡ first_code (later_word command ∷ []) → ⊥
-set_built Has e = omega arith
-set_built command e = omega arith
-
-later_built : (f : Form) (command : Later) (others : List (List ℕ)) → words_for f ≡ later_word command ∷ others → ⊥
-later_built new_object command others e = new_built command (ap first_code e)
-later_built (get_property o name) command others e = get_built command (ap first_code e)
-later_built (set_value o name value) command others e = set_built command (ap first_code e)
-
--- and `new null` has no object
-prototype_built : (f : Form) (o : ℕ) → words_for f ≡ codes "new" ∷ object_word o ∷ [] → ⊥
-prototype_built new_object o e = differ 110 35 (ap second_byte e) refl
-prototype_built (get_property p name) o e = differ 10303 11003 (ap first_code e) refl
-prototype_built (set_value p name value) o e = differ 11503 11003 (ap first_code e) refl
-
-pub forms_built : (f : Form) → AreUnbuilt (words_for f) → ⊥
-forms_built f (inl later) = later_built f later.0 later.1 later.2
-forms_built f (inr prototype) = prototype_built f prototype.0 prototype.2

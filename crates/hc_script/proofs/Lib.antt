@@ -1,7 +1,11 @@
 pub mod Apart
+pub mod Asked
 pub mod Breaks
 pub mod Content
+pub mod FieldsApart
+pub mod Fills
 pub mod FirstWord
+pub mod FormsApart
 pub mod Lines
 pub mod NamesAfter
 pub mod Numerals
@@ -11,3 +15,4 @@ pub mod Skipping
 pub mod Spelling
 pub mod Taking
 pub mod Turns
+pub mod WordsApart

@@ -5,7 +5,7 @@ use Rattle.std.specs.Str.{IsAscii, IsUtf8}
 use Rattle.std.proofs.lemmas.Str.{IsUtf8-from_ascii}
 use Rattle.std.proofs.lemmas.Grind.{common_steps}
 use Rattle.std.proofs.lemmas.Bool.Decides.{nat_tests}
-use Rattle.hc_script.specs.Grammar.{begins_name, continues_name, IsName, is_text_byte, IsText}
+use Rattle.hc_script.specs.Values.{begins_name, continues_name, IsName, is_text_byte, IsText}
 
 continues_ascii : (byte : ℕ) → continues_name byte ≡ true → byte < 128
 continues_ascii byte h = grind (arith, nat_tests)

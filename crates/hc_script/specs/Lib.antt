@@ -1,11 +1,13 @@
+pub mod Asks
 pub mod Buffer
+pub mod Definition
 pub mod Fetch
 pub mod Grammar
-pub mod Later
 pub mod Line
 pub mod Lines
 pub mod Memory
 pub mod MemoryView
+pub mod Numbers
 pub mod Numeral
 pub mod Outside
 pub mod Reader
@@ -15,4 +17,6 @@ pub mod Request
 pub mod Status
 pub mod Token
 pub mod Turn
+pub mod Values
+pub mod Verbs
 pub mod Words

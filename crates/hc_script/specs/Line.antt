@@ -3,8 +3,9 @@ use Rattle.std.specs.Prelude.{◌≡◌, ◌⊎◌, ℕ, ◌-◌, ◌<◌, ◌�
 use Rattle.std.specs.List.{list_all}
 use Rattle.hc_names.specs.declared.TheConstants.{MAX_NAMES}
 use Rattle.hc_script.specs.Words.{words_of, is_skipped}
-use Rattle.hc_script.specs.Grammar.{Form, IsForm, words_for, names_after, AsksFor, HaveNoForm}
-use Rattle.hc_script.specs.Later.{AreUnbuilt}
+use Rattle.hc_script.specs.Verbs.{is_built}
+use Rattle.hc_script.specs.Grammar.{Form, verb_of, IsForm, IsSpelled, names_after, HaveNoForm}
+use Rattle.hc_script.specs.Asks.{AsksFor, AreUnbuilt}
 use Rattle.hc_script.specs.declared.command.Command.{Command}
 use Rattle.hc_script.specs.declared.fault.What.{What}
 use Rattle.hc_script.specs.declared.fault.What.TheVariants.{Form as FormWord, Long, Size, Names, Unbuilt}
@@ -35,18 +36,13 @@ pub record IsQuestion (line : List ℕ) : Type 0 where
   pub short : IsShort line
   pub unskipped : is_skipped line ≡ false
 
--- the words are those of no command that is built or to be built
-pub record HaveNoMeaning (words : List (List ℕ)) : Type 0 where
-  pub not_unbuilt : AreUnbuilt words → ⊥
-  pub no_form : HaveNoForm words
-
--- the line is refused wherever it stands: as too long; for a byte, or for words that have no meaning; for a command
--- that isn't built
+-- the line is refused wherever it stands: as too long; for a byte, or for words that have no form; for a command that
+-- isn't built
 abbrev pub IsRefusedAnywhere : List ℕ → What → Type 0
 IsRefusedAnywhere line Size = ⊥
 IsRefusedAnywhere line Long = IsLong line
 IsRefusedAnywhere line FormWord =
-    IsQuestion line × ((is_plain line ≡ false) ⊎ ((is_plain line ≡ true) × HaveNoMeaning (words_of line)))
+    IsQuestion line × ((is_plain line ≡ false) ⊎ ((is_plain line ≡ true) × HaveNoForm (words_of line)))
 IsRefusedAnywhere line Unbuilt = IsQuestion line × (is_plain line ≡ true) × AreUnbuilt (words_of line)
 IsRefusedAnywhere line Names = ⊥
 
@@ -56,7 +52,8 @@ pub record AsksForTooMany (names : List (List ℕ)) (line : List ℕ) : Type 0 w
   pub plain : is_plain line ≡ true
   pub form : Form
   pub is_form : IsForm form
-  pub spelling : words_of line ≡ words_for form
+  pub spelling : IsSpelled form (words_of line)
+  pub built : is_built (verb_of form) ≡ true
   pub too_many : MAX_NAMES < length (names_after names form)
 
 -- the line is refused behind these names

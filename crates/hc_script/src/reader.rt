@@ -1,14 +1,17 @@
-ghost use Rattle.std.specs.Prelude.{◌≡◌, ◌+◌, ◌<◌, ◌≤◌, None, Some, IfOk, IfErr, IsErrOf, OnOk, [], length, take, drop};
+ghost use Rattle.std.specs.Prelude.{◌≡◌, ◌+◌, ◌<◌, ◌≤◌, None, Some, IfOk, IfSome, IfErr, IsErrOf, OnOk, [], length, take, drop};
 ghost use Rattle.hc_names.specs.declared.TheConstants.{MAX_NAMES};
 ghost use Rattle.hc_script.specs.Outside.{Rose};
 ghost use Rattle.hc_script.specs.declared.limits.TheConstants.{MAX_BYTES, MAX_LINE, PIECE};
 ghost use Rattle.hc_script.specs.Lines.{ahead};
+ghost use Rattle.hc_script.specs.Numbers.{IsCommandBelow};
+ghost use Rattle.hc_script.specs.Verbs.{IsBuilt};
 ghost use Rattle.hc_script.specs.Reading.{IsPassed, IsAsked, Serves};
 ghost use Rattle.hc_script.specs.Reader.{Reader, the_new_reader, phase_after};
 ghost use Rattle.hc_script.specs.Turn.{TakesTurn, FailsTurn, IsLineFault, turn_for};
 
 use crate::buffer::LineBuffer;
 use crate::fetch::{Fetched, Lack, fetch_line};
+use crate::laws::commands_are_named;
 use crate::limits::PIECE;
 use crate::line::{Meaning, meaning_of};
 use crate::{Command, ScriptFault, Source, What};
@@ -91,9 +94,13 @@ impl ScriptReader {
         ensures ended { self.old.phase ≡ Phase.Ended → (result ≡ Ok None) × (self.new ≡ self.old) }
         ensures failed { (fault : ScriptFault) → self.old.phase ≡ Phase.Failed fault
             → (result ≡ Err fault) × (self.new ≡ self.old) }
+        ensures numbers { IfOk result (λ found. IfSome found (λ command. IsCommandBelow (length self.new.at.names) command)) }
+        ensures within { length self.new.at.names ≤ MAX_NAMES }
+        ensures built { IfOk result (λ found. IfSome found (λ command. IsBuilt command)) }
         ensures held { length self.new.pending ≤ MAX_LINE + PIECE }
         ensures grows { S.faults source.old ≤ S.faults source.new }
     {
+        commands_are_named();
         match self.phase {
             Phase::Going => {}
             Phase::Ended => return Ok(None),

@@ -2,12 +2,12 @@ ghost use Rattle.std.specs.Prelude.{◌≡◌, ◌<◌, ◌^◌, ◌↔◌, ◌�
 ghost use Rattle.std.specs.List.{list_all};
 ghost use Rattle.std.specs.Fmt.{signed_decimal};
 ghost use Rattle.hc_value.specs.Num.{IsSafeInteger};
-ghost use Rattle.hc_script.specs.Grammar.{is_text_byte, IsText, IsWrittenValue, WritesNoValue, object_word, text_word, value_word};
+ghost use Rattle.hc_script.specs.Values.{is_text_byte, IsText, IsWrittenValue, WritesNoValue, object_word, text_word, value_word};
 ghost use Rattle.hc_script.specs.Request.{written_of};
 
-use crate::grammar::object_number;
 use crate::limits::MAX_TEXT;
 use crate::numeral::integer;
+use crate::token::object_number;
 use hc_value::Num;
 
 /// A value as its word has it, with a text as its bytes.

@@ -9,7 +9,7 @@ use Rattle.hc_value.specs.declared.prop.Held.{Held}
 use Rattle.hc_value.specs.declared.prop.Held.TheVariants.{Datum, Pair}
 use Rattle.hc_value.specs.declared.prop.Prop.{Prop}
 use Rattle.hc_script.specs.declared.command.Command.{Command}
-use Rattle.hc_script.specs.declared.command.Command.TheVariants.{New, Get, Set}
+use Rattle.hc_script.specs.declared.command.Command.TheVariants.{New, Get, Set, Define, Has, Own, Delete, Declare, Exec}
 use Rattle.hc_table.specs.World.{Object, World, object, props_at, property_of}
 use Rattle.hc_ops.specs.Nearest.{Nearest, own_or_further, nearest_among, nearest}
 use Rattle.hc_ops.specs.Get.{read_of, read_nearest, get_reply}
@@ -19,7 +19,7 @@ use Rattle.hc_names.specs.declared.TheConstants.{MAX_NAMES}
 use Rattle.hc_value.specs.declared.word.TheConstants.{TEXT_LIMIT}
 use Rattle.hc_session.specs.State.{State, Does, Answer, HasNumbers, is_there, proto_there, answer_to}
 use Rattle.hc_session.specs.Named.{IsNamedHeld, AreNamedProps, IsNamedWorld, IsShown}
-use Rattle.hc_script.specs.Grammar.{IsValueBelow, IsCommandBelow}
+use Rattle.hc_script.specs.Numbers.{IsValueBelow, IsGivenBelow, IsCommandBelow}
 
 -- more names keep it
 pub value_kept : (count more : ℕ) (value : Value) → count ≤ more → IsValueBelow count value → IsValueBelow more value
@@ -30,11 +30,32 @@ value_kept count more (Boolean b) grows named = tt
 value_kept count more (Int integer) grows named = tt
 value_kept count more (Obj o) grows named = tt
 
+given_kept : (count more : ℕ) (value : Option Value) → count ≤ more → IsGivenBelow count value → IsGivenBelow more value
+given_kept count more None grows named = tt
+given_kept count more (Some value) grows named = value_kept count more value grows named
+
 -- among the names there are, numbers are such that a word can hold them
+command_kept : (count more : ℕ) (command : Command) → count ≤ more → IsCommandBelow count command → IsCommandBelow more command
+command_kept count more (Get o name) grows named = omega arith
+command_kept count more (Set o name value) grows named = (omega (arith, named.0), value_kept count more value grows named.1)
+command_kept count more (Define o name d) grows named = (
+  omega (arith, named.0),
+  record {
+    value = given_kept count more d.value grows named.1.value;
+    getter = named.1.getter;
+    setter = named.1.setter;
+    one_kind = named.1.one_kind;
+  },
+)
+command_kept count more (Has o name) grows named = omega arith
+command_kept count more (Own o name) grows named = omega arith
+command_kept count more (Delete o name) grows named = omega arith
+command_kept count more (Declare op name) grows named = omega arith
+command_kept count more (Exec s o value) grows named = given_kept count more value grows named
+command_kept count more command grows named = tt
+
 pub numbers_held : (count : ℕ) (command : Command) → count ≤ MAX_NAMES → IsCommandBelow count command → HasNumbers command
-numbers_held count (New proto) few below = tt
-numbers_held count (Get o name) few below = omega (arith, few, below)
-numbers_held count (Set o name value) few below = (omega (arith, few, below.0), value_kept count TEXT_LIMIT value (omega (arith, few)) below.1)
+numbers_held count command few named = command_kept count TEXT_LIMIT command (omega arith) named
 
 held_kept : (count more : ℕ) (held : Held) → count ≤ more → IsNamedHeld count held → IsNamedHeld more held
 held_kept count more (Datum value) grows named = value_kept count more value grows named
@@ -161,6 +182,7 @@ answer_named count state (Get o name) named of_command =
     either_answer count (is_there state o) _ _ (get_named count state.world o name named, named) (tt, named)
 answer_named count state (Set o name value) named of_command =
     either_answer count _ _ _ (outcome_named count state.world o name value (nearest state.world o name) named of_command.1) (tt, named)
+answer_named count state command named of_command = (tt, named)
 
 -- the same of what a command does
 pub does_show : (count : ℕ) (old : State) (command : Command) (reply : Reply) (new : State) → Does old command reply new → IsNamedWorld count old.world → IsCommandBelow count command → IsShown count reply

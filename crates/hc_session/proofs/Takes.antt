@@ -1,6 +1,6 @@
 -- What a call of the reader leads to.
 use Rattle.std.proofs.Common.{◌≡◌, ℕ, ◌<◌, ◌≤◌, true, false, List, [], ◌∷◌, length, ◌∙◌, ap, arith, Option}
-use Rattle.hc_script.specs.Grammar.{Form, command_of, names_after, IsCommandBelow}
+use Rattle.hc_script.specs.Grammar.{Form, names_after}
 use Rattle.hc_script.specs.Reading.{Position, IsAsked, ArePassed, TakesCommand}
 use Rattle.hc_script.specs.declared.command.Command.{Command}
 use Rattle.hc_script.specs.declared.limits.TheConstants.{MAX_BYTES}
@@ -36,9 +36,3 @@ command_keeps_names grow at after before now command took =
     let same : took.there.names ≡ at.names = passed_names at took.there took.passed took.are_passed in
     let grown : length took.there.names ≤ length (names_after took.there.names asks.form) = grow took.there.names asks.form in
     omega (arith, grown, ap (λ (names : List (List ℕ)). length names) same, ap (λ (names : List (List ℕ)). length names) asks.names_are)
-
--- a command's name and text have numbers among the names after it
-pub command_named : ((names : List (List ℕ)) (form : Form) → IsCommandBelow (length (names_after names form)) (command_of names form)) → (at after : Position) (before now : Option (List ℕ)) (command : Command) → TakesCommand at before command after now → IsCommandBelow (length after.names) command
-command_named below at after before now command took =
-    let asks = took.asked.understood.asks in
-    rw (asks.command_is, asks.names_are) (below took.there.names asks.form)

@@ -5,7 +5,7 @@ use Rattle.hc_value.specs.declared.prop.Held.TheVariants.{Datum, Pair}
 use Rattle.hc_value.specs.declared.prop.Prop.{Prop}
 use Rattle.hc_value.specs.declared.reply.Reply.{Reply}
 use Rattle.hc_value.specs.declared.reply.Reply.TheVariants.{Object, Val, Call, CallWith, Flag, Property, NameList, Proto, Shape, Site, Job, Fine, Finished, NoObject, NoSite, NoJob, WrongSite, NoRoom, Full}
-use Rattle.hc_script.specs.Grammar.{IsValueBelow}
+use Rattle.hc_script.specs.Numbers.{IsValueBelow}
 use Rattle.hc_table.specs.World.{World, props_at}
 
 abbrev pub IsNamedHeld : ℕ → Held → Type 0

@@ -5,11 +5,11 @@ use Rattle.hc_value.specs.declared.reply.Reply.TheVariants.{Object, NoObject, Fu
 use Rattle.hc_value.specs.declared.value.Value.{Value}
 use Rattle.hc_value.specs.declared.value.Value.TheVariants.{Undefined, Null, Bool as Boolean, Int, Text, Obj}
 use Rattle.hc_value.specs.declared.word.TheConstants.{TEXT_LIMIT}
-use Rattle.hc_table.specs.Numbers.{IsNameNumber}
 use Rattle.hc_table.specs.World.{World, with_object}
 use Rattle.hc_ops.specs.Get.{get_reply}
 use Rattle.hc_ops.specs.Set.{Outcome, set_outcome}
-use Rattle.hc_script.specs.Grammar.{IsValueBelow}
+use Rattle.hc_script.specs.Numbers.{IsCommandBelow}
+use Rattle.hc_script.specs.Verbs.{IsBuilt}
 use Rattle.hc_script.specs.declared.command.Command.{Command}
 use Rattle.hc_script.specs.declared.command.Command.TheVariants.{New, Get, Set}
 
@@ -59,7 +59,8 @@ new_answer state proto =
 abbrev pub set_answer : State → Outcome → Answer
 set_answer state outcome = replies outcome.reply (record state { world = outcome.world })
 
--- the reply to a command, and the state after it: first whether each object that it names is there
+-- the reply to a command, and the state after it: first whether each object that it names is there. The commands of
+-- the last line aren't built
 abbrev pub answer_to : State → Command → Answer
 answer_to state (New proto) = if proto_there state proto then new_answer state proto else replies NoObject state
 answer_to state (Get o name) =
@@ -68,20 +69,14 @@ answer_to state (Set o name value) =
     if is_there state o && names_there state value
     then set_answer state (set_outcome state.world o name value)
     else replies NoObject state
+answer_to state command = replies NoObject state
 
--- a command may be answered so, and leave this state
+-- a command that is built may be answered so, and leave this state
 pub record Does (old : State) (command : Command) (reply : Reply) (new : State) : Type 0 where
+  pub built : IsBuilt command
   pub reply_is : reply ≡ (answer_to old command).reply
   pub state_is : new ≡ (answer_to old command).state
 
--- the commands that are built: objects have no prototype yet
-abbrev pub IsBuilt : Command → Type 0
-IsBuilt (New proto) = proto ≡ None
-IsBuilt (Get o name) = Unit {0}
-IsBuilt (Set o name value) = Unit {0}
-
--- names and texts have numbers that a word can hold
+-- names and texts have numbers that a word can hold, and a definition is one that may be made
 abbrev pub HasNumbers : Command → Type 0
-HasNumbers (New proto) = Unit {0}
-HasNumbers (Get o name) = IsNameNumber name
-HasNumbers (Set o name value) = IsNameNumber name × IsValueBelow TEXT_LIMIT value
+HasNumbers command = IsCommandBelow TEXT_LIMIT command

@@ -15,7 +15,7 @@ use Rattle.hc_value.specs.declared.reply.Mode.{Mode}
 use Rattle.hc_value.specs.declared.reply.Mode.TheVariants.{Fast, Slow}
 use Rattle.hc_value.specs.declared.reply.Reply.{Reply}
 use Rattle.hc_value.specs.declared.reply.Reply.TheVariants.{Object, Val, Call, CallWith, Flag, Property, NameList, Proto, Shape, Site, Job, Fine, Finished, NoObject, NoSite, NoJob, WrongSite, NoRoom, Full}
-use Rattle.hc_script.specs.Grammar.{object_word}
+use Rattle.hc_script.specs.Values.{object_word}
 
 -- the text of a name's or a text's number
 abbrev pub named : List (List ℕ) → ℕ → List ℕ

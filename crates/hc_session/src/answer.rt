@@ -1,10 +1,10 @@
 ghost use Rattle.std.specs.Prelude.{◌≡◌, ◌≤◌, length, OnOk, IsErrOf};
 ghost use Rattle.hc_names.specs.declared.TheConstants.{MAX_NAMES};
 ghost use Rattle.hc_script.specs.Outside.{AppendsBytes, Rose};
-ghost use Rattle.hc_script.specs.Grammar.{IsCommandBelow};
+ghost use Rattle.hc_script.specs.Numbers.{IsCommandBelow};
 ghost use Rattle.hc_session.specs.Named.{IsNamedWorld};
 ghost use Rattle.hc_session.specs.Answer.{AnswersCommand, AnswersPartly};
-ghost use Rattle.hc_session.specs.State.{IsBuilt};
+ghost use Rattle.hc_script.specs.Verbs.{IsBuilt};
 
 use crate::report::render_reply;
 use crate::write::write_piece;

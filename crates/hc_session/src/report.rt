@@ -1,6 +1,7 @@
 ghost use Rattle.std.specs.Prelude.{◌≡◌, ◌<◌, ◌++◌, codes, length, OnOk};
 ghost use Rattle.std.specs.Fmt.{decimal, signed_decimal};
-ghost use Rattle.hc_script.specs.Grammar.{object_word, IsValueBelow};
+ghost use Rattle.hc_script.specs.Values.{object_word};
+ghost use Rattle.hc_script.specs.Numbers.{IsValueBelow};
 ghost use Rattle.hc_session.specs.Fault.{what_text, refusal_line};
 ghost use Rattle.hc_session.specs.Named.{IsShown};
 ghost use Rattle.hc_session.specs.Text.{value_text, reply_text, reply_line, bool_text, named};

@@ -1,6 +1,7 @@
 ghost use Rattle.std.specs.Prelude.{◌≡◌, [], true, false, IfOk, OnErr};
 ghost use Rattle.hc_layout.specs.Shape.{IsShape};
-ghost use Rattle.hc_session.specs.State.{IsBuilt, HasNumbers, Does};
+ghost use Rattle.hc_session.specs.State.{HasNumbers, Does};
+ghost use Rattle.hc_script.specs.Verbs.{IsBuilt};
 
 use crate::perform::perform;
 use hc_board::Writer;

@@ -1,6 +1,6 @@
 use Rattle.std.proofs.Common.{refl, arith}
 use Rattle.hc_session.proofs.Runs.{progress_on}
-use Rattle.hc_session.proofs.Takes.{command_moves, command_within, command_keeps_names, command_named}
+use Rattle.hc_session.proofs.Takes.{command_moves, command_within, command_keeps_names}
 use Rattle.hc_session.proofs.NamedWorlds.{world_kept}
 use Rattle.hc_session.proofs.Endings.{ends_done, ends_memory, ends_write, ends_fault}
 use Rattle.hc_session.proofs.replaying.replay_lines.Goals as goal
@@ -9,11 +9,6 @@ pub answer-requires-clause-world : goal.answer-requires-clause-world
 answer-requires-clause-world g c =
     let took = rw c.in-Ok-Some.field-0-is at (c.in-Ok-Some.ensures.serves c.commands.invariant.going) in
     rw c.names.ensures.names (world_kept _ _ _ (command_keeps_names c.commands_are_named.ensures.grow _ _ _ _ _ took) c.commands.invariant.named)
-
-pub answer-requires-clause-command : goal.answer-requires-clause-command
-answer-requires-clause-command g c =
-    let took = rw c.in-Ok-Some.field-0-is at (c.in-Ok-Some.ensures.serves c.commands.invariant.going) in
-    rw c.names.ensures.names (command_named c.commands_are_named.ensures.below _ _ _ _ _ took)
 
 pub commands-smaller : goal.commands-smaller
 commands-smaller g c =

@@ -1,7 +1,7 @@
-use Rattle.hc_script.specs.Grammar.{IsWrittenValue}
+use Rattle.hc_script.specs.Values.{IsWrittenValue}
 use Rattle.hc_script.specs.Request.{written_of}
 use Rattle.hc_script.proofs.Spelling.{text_is_text}
-use Rattle.hc_script.proofs.line.value_for.Goals as goal
+use Rattle.hc_script.proofs.numbering.value_for.Goals as goal
 
 pub number_for-requires-clause-text : goal.number_for-requires-clause-text
 number_for-requires-clause-text c =
