@@ -41,10 +41,13 @@ verb_word Finish = codes "finish"
 
 -- the command that begins with it is built
 abbrev pub is_built : Verb → Bool
-is_built New = true
-is_built Set = true
-is_built (OfProperty Get) = true
-is_built verb = false
+is_built Site = false
+is_built Exec = false
+is_built Compile = false
+is_built Step = false
+is_built During = false
+is_built Finish = false
+is_built verb = true
 
 -- the verb of a command
 abbrev pub verb_of_command : Command → Verb

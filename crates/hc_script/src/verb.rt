@@ -103,9 +103,9 @@ impl Verb {
     pub fn is_built(self) -> bool
         ensures { result ≡ is_built self }
     {
-        matches!(
+        !matches!(
             self,
-            Verb::New | Verb::Set | Verb::OfProperty(PropertyVerb::Get)
+            Verb::Site | Verb::Exec | Verb::Compile | Verb::Step | Verb::During | Verb::Finish
         )
     }
 }

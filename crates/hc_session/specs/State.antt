@@ -1,81 +1,165 @@
 -- The state that commands change, and what each command does to it.
-use Rattle.std.specs.Prelude.{◌≡◌, ℕ, Bool, true, ◌&&◌, length, Option, Some, None, if◌then◌else◌, ◌==◌, nat_lt}
+use Rattle.std.specs.Prelude.{◌≡◌, ◌≢◌, ◌↔◌, ℕ, Bool, true, false, IsTrue, ◌&&◌, length, Option, Some, None, if◌then◌else◌, ◌==◌, nat_lt, ⊤}
 use Rattle.hc_value.specs.declared.reply.Reply.{Reply}
-use Rattle.hc_value.specs.declared.reply.Reply.TheVariants.{Object, NoObject, Full}
+use Rattle.hc_value.specs.declared.reply.Reply.TheVariants.{Object, Flag, NoObject, Full, Proto as Prototype, Shape as Kept}
 use Rattle.hc_value.specs.declared.value.Value.{Value}
 use Rattle.hc_value.specs.declared.value.Value.TheVariants.{Undefined, Null, Bool as Boolean, Int, Text, Obj}
 use Rattle.hc_value.specs.declared.word.TheConstants.{TEXT_LIMIT}
-use Rattle.hc_table.specs.World.{World, with_object}
+use Rattle.hc_table.specs.Changes.{Did, Nothing, Created, after}
+use Rattle.hc_table.specs.Kept.{Kept as Tables, with_world}
+use Rattle.hc_table.specs.World.{World, object, with_object}
+use Rattle.hc_ops.specs.Act.{Act}
+use Rattle.hc_ops.specs.Define.{define_act}
+use Rattle.hc_ops.specs.Delete.{delete_act}
+use Rattle.hc_ops.specs.Found.{own_reply}
 use Rattle.hc_ops.specs.Get.{get_reply}
+use Rattle.hc_ops.specs.Has.{has_reply}
+use Rattle.hc_ops.specs.Integrity.{set_proto_act, lock_act, seal_act, freeze_act}
+use Rattle.hc_ops.specs.Keys.{keys_reply}
 use Rattle.hc_ops.specs.Set.{Outcome, set_outcome}
+use Rattle.hc_ops.specs.SetDid.{set_did}
+use Rattle.hc_objects.specs.Came.{Came}
+use Rattle.hc_objects.specs.Meaning.{cause_in}
+use Rattle.hc_objects.specs.Modes.{AreAlike, mode_of}
+use Rattle.hc_objects.specs.State.{ObjectsState}
 use Rattle.hc_script.specs.Numbers.{IsCommandBelow}
 use Rattle.hc_script.specs.Verbs.{IsBuilt}
 use Rattle.hc_script.specs.declared.command.Command.{Command}
-use Rattle.hc_script.specs.declared.command.Command.TheVariants.{New, Get, Set}
+use Rattle.hc_script.specs.declared.command.Command.TheVariants.{New, Get, Set, Define, Has, Own, Delete, Keys, Proto, SetProto, Extensible, Lock, Seal, Freeze, Shape, Same}
 
--- the objects, and the most that there may be
+-- the objects as property tables, with the most that there may be; and how they are kept, whatever their pace
 pub record State : Type 0 where
   pub world : World
   pub limit : ℕ
+  pub objects : ObjectsState ⊤
 
 -- the state, and whether no command was performed yet
 pub record Standing : Type 0 where
   pub state : State
   pub fresh : Bool
 
+-- the objects whatever their pace
+abbrev pub without_pace : {P : Type 0} → ObjectsState P → ObjectsState ⊤
+without_pace o = record { heap = record { view = o.heap.view; desk = o.heap.desk; pace = tt }; kept = o.kept; of_null = o.of_null }
+
+-- the property tables of a state
+abbrev pub tables_of : State → Tables
+tables_of state = record { world = state.world; limit = state.limit }
+
+-- Property tables
+
 -- an object of this number is there
-abbrev pub is_there : State → ℕ → Bool
-is_there state o = nat_lt o (length state.world)
+abbrev pub is_there : Tables → ℕ → Bool
+is_there tables o = nat_lt o (length tables.world)
 
 -- the object that a value names is there, if it names one
-abbrev pub names_there : State → Value → Bool
-names_there state Undefined = true
-names_there state Null = true
-names_there state (Boolean b) = true
-names_there state (Int integer) = true
-names_there state (Text text) = true
-names_there state (Obj o) = is_there state o
+abbrev pub names_there : Tables → Value → Bool
+names_there tables Undefined = true
+names_there tables Null = true
+names_there tables (Boolean b) = true
+names_there tables (Int integer) = true
+names_there tables (Text text) = true
+names_there tables (Obj o) = is_there tables o
 
--- the same of a prototype
-abbrev pub proto_there : State → Option ℕ → Bool
-proto_there state None = true
-proto_there state (Some o) = is_there state o
+-- the same of a value that a definition may give, and of a prototype
+abbrev pub given_there : Tables → Option Value → Bool
+given_there tables None = true
+given_there tables (Some value) = names_there tables value
 
--- a reply, and the state after it
+abbrev pub proto_there : Tables → Option ℕ → Bool
+proto_there tables None = true
+proto_there tables (Some o) = is_there tables o
+
+-- a reply, and the tables after it
 pub record Answer : Type 0 where
   pub reply : Reply
-  pub state : State
+  pub tables : Tables
 
-abbrev pub replies : Reply → State → Answer
-replies reply state = record { reply = reply; state = state }
+abbrev pub replies : Reply → Tables → Answer
+replies reply tables = record { reply = reply; tables = tables }
 
 -- a new object of the next number, as long as the limit isn't reached
-abbrev pub new_answer : State → Option ℕ → Answer
-new_answer state proto =
-    if length state.world == state.limit
-    then replies Full state
-    else replies (Object (length state.world)) (record state { world = with_object state.world proto })
+abbrev pub new_answer : Tables → Option ℕ → Answer
+new_answer tables proto =
+    if length tables.world == tables.limit
+    then replies Full tables
+    else replies (Object (length tables.world)) (with_world tables (with_object tables.world proto))
 
-abbrev pub set_answer : State → Outcome → Answer
-set_answer state outcome = replies outcome.reply (record state { world = outcome.world })
+abbrev pub set_answer : Tables → Outcome → Answer
+set_answer tables outcome = replies outcome.reply (with_world tables outcome.world)
 
--- the reply to a command, and the state after it: first whether each object that it names is there. The commands of
--- the last line aren't built
-abbrev pub answer_to : State → Command → Answer
-answer_to state (New proto) = if proto_there state proto then new_answer state proto else replies NoObject state
-answer_to state (Get o name) =
-    if is_there state o then replies (get_reply state.world o name) state else replies NoObject state
-answer_to state (Set o name value) =
-    if is_there state o && names_there state value
-    then set_answer state (set_outcome state.world o name value)
-    else replies NoObject state
-answer_to state command = replies NoObject state
+-- the reply of an operation, and the tables after what it did
+abbrev pub acts : Tables → Act → Answer
+acts tables act = replies act.reply (with_world tables (after act.did tables.world))
 
--- a command that is built may be answered so, and leave this state
+-- an answer, if all that the command names is there
+abbrev pub where_there : Bool → Tables → Answer → Answer
+where_there there tables answer = if there then answer else replies NoObject tables
+
+-- the reply to a command, and the tables after it: first whether each object that it names is there. The commands of the last
+-- line ask how objects are kept, or aren't built
+abbrev pub answer_to : Tables → Command → Answer
+answer_to tables (New proto) = where_there (proto_there tables proto) tables (new_answer tables proto)
+answer_to tables (Get o name) = where_there (is_there tables o) tables (replies (get_reply tables.world o name) tables)
+answer_to tables (Set o name value) = where_there (is_there tables o && names_there tables value) tables (set_answer tables (set_outcome tables.world o name value))
+answer_to tables (Define o name d) = where_there (is_there tables o && given_there tables d.value) tables (acts tables (define_act tables.world o name d))
+answer_to tables (Has o name) = where_there (is_there tables o) tables (replies (has_reply tables.world o name) tables)
+answer_to tables (Own o name) = where_there (is_there tables o) tables (replies (own_reply tables.world o name) tables)
+answer_to tables (Delete o name) = where_there (is_there tables o) tables (acts tables (delete_act tables.world o name))
+answer_to tables (Keys o) = where_there (is_there tables o) tables (replies (keys_reply tables.world o) tables)
+answer_to tables (Proto o) = where_there (is_there tables o) tables (replies (Prototype (object tables.world o).proto) tables)
+answer_to tables (SetProto o proto) = where_there (is_there tables o && proto_there tables proto) tables (acts tables (set_proto_act tables.world o proto))
+answer_to tables (Extensible o) = where_there (is_there tables o) tables (replies (Flag (object tables.world o).extensible) tables)
+answer_to tables (Lock o) = where_there (is_there tables o) tables (acts tables (lock_act tables.world o))
+answer_to tables (Seal o) = where_there (is_there tables o) tables (acts tables (seal_act o))
+answer_to tables (Freeze o) = where_there (is_there tables o) tables (acts tables (freeze_act o))
+answer_to tables command = replies NoObject tables
+
+-- the one change that a command makes, if any
+abbrev pub if_so : Bool → Did → Did
+if_so there did = if there then did else Nothing
+
+abbrev pub did_by : Tables → Command → Did
+did_by tables (New proto) = if_so (proto_there tables proto) (if length tables.world == tables.limit then Nothing else Created proto)
+did_by tables (Set o name value) = if_so (is_there tables o && names_there tables value) (set_did tables.world o name value)
+did_by tables (Define o name d) = if_so (is_there tables o && given_there tables d.value) (define_act tables.world o name d).did
+did_by tables (Delete o name) = if_so (is_there tables o) (delete_act tables.world o name).did
+did_by tables (SetProto o proto) = if_so (is_there tables o && proto_there tables proto) (set_proto_act tables.world o proto).did
+did_by tables (Lock o) = if_so (is_there tables o) (lock_act tables.world o).did
+did_by tables (Seal o) = if_so (is_there tables o) (seal_act o).did
+did_by tables (Freeze o) = if_so (is_there tables o) (freeze_act o).did
+did_by tables command = Nothing
+
+-- a command on property tables may be answered so, and leave these
+pub record DoesOnTables (old : Tables) (command : Command) (reply : Reply) (new : Tables) : Type 0 where
+  pub reply_is : reply ≡ (answer_to old command).reply
+  pub tables_are : new ≡ (answer_to old command).tables
+
+-- How objects are kept
+
+-- two objects are fast and have one map: they are one, or are alike
+pub record HaveOneMap (state : State) (a b : ℕ) (same : Bool) : Type 0 where
+  pub itself : a ≡ b → IsTrue same ↔ (cause_in state.objects.kept a ≡ None)
+  pub others : a ≢ b → IsTrue same ↔ AreAlike state.objects.heap.view.trail state.objects.kept a b
+
+-- a reply that is given where all that the command names is there
+abbrev pub IfThere : Bool → Reply → Type 0 → Type 0
+IfThere true reply given = given
+IfThere false reply given = reply ≡ NoObject
+
+-- a reply to a command
+abbrev pub IsReplyTo : State → Command → Reply → Type 0
+IsReplyTo state (Shape o) reply = IfThere (is_there (tables_of state) o) reply (reply ≡ Kept (mode_of state.objects.heap.view.trail state.objects.kept o))
+IsReplyTo state (Same a b) reply = IfThere (is_there (tables_of state) a && is_there (tables_of state) b) reply ((same : Bool) × (reply ≡ Flag same) × HaveOneMap state a b same)
+IsReplyTo state command reply = reply ≡ (answer_to (tables_of state) command).reply
+
+-- a command that is built may be answered so, and leave this state: the tables are those of the answer, and what became of
+-- modes, needs and prototypes is what became of the one change
 pub record Does (old : State) (command : Command) (reply : Reply) (new : State) : Type 0 where
   pub built : IsBuilt command
-  pub reply_is : reply ≡ (answer_to old command).reply
-  pub state_is : new ≡ (answer_to old command).state
+  pub reply_is : IsReplyTo old command reply
+  pub tables_are : tables_of new ≡ (answer_to (tables_of old) command).tables
+  pub came : Came (λ _ _ _ _. ⊤) old.objects (did_by (tables_of old) command) new.objects
 
 -- names and texts have numbers that a word can hold, and a definition is one that may be made
 abbrev pub HasNumbers : Command → Type 0
