@@ -1,6 +1,7 @@
 ghost use Rattle.std.specs.Prelude.{◌≡◌, ◌<◌, ◌≤◌};
 ghost use Rattle.hc_layout.specs.Shape.{IsShape};
-ghost use Rattle.hc_value.specs.declared.word.TheConstants.{NUMBER_LIMIT};
+ghost use Rattle.hc_value.specs.declared.word.TheConstants.{NUMBER_LIMIT, TEXT_LIMIT};
+ghost use Rattle.hc_script.specs.Grammar.{IsValueBelow};
 ghost use Rattle.hc_session.specs.State.{IsBuilt, HasNumbers};
 
 use crate::perform::perform;
@@ -25,7 +26,9 @@ fn draw(state: &mut u64, limit: u32) -> u32
 }
 
 // A value, often of an object that isn't there.
-fn drawn_value(state: &mut u64) -> Value {
+fn drawn_value(state: &mut u64) -> Value
+    ensures { IsValueBelow TEXT_LIMIT result }
+{
     match draw(state, 6) {
         0 => match Num::new(i64::from(draw(state, 4)) * 1_073_741_823) {
             Some(n) => Value::Int(n),
