@@ -2,6 +2,8 @@ pub mod Causes
 pub mod Endings
 pub mod FirstRefused
 pub mod NamedWorlds
+pub mod Obeys
 pub mod Pieces
 pub mod Runs
 pub mod Takes
+pub mod WithoutPace
