@@ -12,6 +12,7 @@ use Rattle.hc_value.specs.declared.word.TheConstants.{TEXT_LIMIT}
 use Rattle.hc_table.specs.Kept.{Kept as Tables}
 use Rattle.hc_table.specs.World.{World, object, props_at}
 use Rattle.hc_ops.specs.Act.{Act}
+use Rattle.hc_ops.specs.Integrity.{seal_act, freeze_act}
 use Rattle.hc_ops.specs.Nearest.{nearest}
 use Rattle.hc_script.specs.Numbers.{IsValueBelow, IsGivenBelow, IsCommandBelow}
 use Rattle.hc_script.specs.declared.command.Command.{Command}
@@ -112,9 +113,9 @@ answered_named count tables (Extensible o) named of_command = either_answer coun
 answered_named count tables (Lock o) named of_command =
     either_answer count (is_there tables o) _ _ (acts_named count tables _ (locked_named count tables.world o) named) (tt, named)
 answered_named count tables (Seal o) named of_command =
-    either_answer count (is_there tables o) _ _ (acts_named count tables _ (tt, tt) named) (tt, named)
+    either_answer count (is_there tables o) _ _ (acts_named count tables (seal_act o) (tt, tt) named) (tt, named)
 answered_named count tables (Freeze o) named of_command =
-    either_answer count (is_there tables o) _ _ (acts_named count tables _ (tt, tt) named) (tt, named)
+    either_answer count (is_there tables o) _ _ (acts_named count tables (freeze_act o) (tt, tt) named) (tt, named)
 answered_named count tables command named of_command = (tt, named)
 
 -- the same of a reply that is given where all is there
@@ -126,7 +127,7 @@ reply_named : (count : ℕ) (old : State) (command : Command) (reply : Reply) �
 reply_named count old (Shape o) reply is named of_command =
     if_there count (is_there (tables_of old) o) reply _ (λ kept. rw kept tt) is
 reply_named count old (Same a b) reply is named of_command =
-    if_there count (is_there (tables_of old) a && is_there (tables_of old) b) reply _ (λ same. rw same.1.0 tt) is
+    if_there count (is_there (tables_of old) a && is_there (tables_of old) b) reply _ (λ same. rw same.1 tt) is
 reply_named count old command reply is named of_command = rw is ((answered_named count (tables_of old) command named of_command).0)
 
 -- what a command does: its reply can be shown, and the objects keep such names and texts
