@@ -23,9 +23,9 @@ returns-clause-write g c failed =
     let written = c.in-Err.ensures.err in
     let line = reply_line c.args.names.now c.in-Ok.reply in
     let text : c.deref.result.now ≡ line =
-        c.deref.ensures.value
-        ∙ where_ok c.render_reply.result (c.render_reply.new.out.items ≡ c.clear.new.self.items ++ line) c.if-is_err.ensures.negation c.render_reply.ensures.ok
-        ∙ ap (λ (xs : List ℕ). xs ++ line) c.clear.ensures.items in
+    c.deref.ensures.value
+    ∙ where_ok c.render_reply.result (c.render_reply.new.out.items ≡ c.clear.new.self.items ++ line) c.if-is_err.ensures.negation c.render_reply.ensures.ok
+    ∙ ap (λ (xs : List ℕ). xs ++ line) c.clear.ensures.items in
     record {
       reply = c.in-Ok.reply;
       new = c.command.new.self.state;
