@@ -1,7 +1,13 @@
 pub mod Causes
 pub mod Endings
 pub mod FirstRefused
+pub mod NamedActs
+pub mod NamedChanges
+pub mod NamedReplies
 pub mod NamedWorlds
+pub mod NamedWrites
+pub mod Obeys
 pub mod Pieces
 pub mod Runs
 pub mod Takes
+pub mod WithoutPace

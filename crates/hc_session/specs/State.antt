@@ -5,7 +5,7 @@ use Rattle.hc_value.specs.declared.reply.Reply.TheVariants.{Object, Flag, NoObje
 use Rattle.hc_value.specs.declared.value.Value.{Value}
 use Rattle.hc_value.specs.declared.value.Value.TheVariants.{Undefined, Null, Bool as Boolean, Int, Text, Obj}
 use Rattle.hc_value.specs.declared.word.TheConstants.{TEXT_LIMIT}
-use Rattle.hc_table.specs.Changes.{Did, Nothing, Created, after}
+use Rattle.hc_table.specs.Changes.{Did, Nothing, Moved, Created, after}
 use Rattle.hc_table.specs.Kept.{Kept as Tables, with_world}
 use Rattle.hc_table.specs.World.{World, object, with_object}
 use Rattle.hc_ops.specs.Act.{Act}
@@ -18,12 +18,12 @@ use Rattle.hc_ops.specs.Integrity.{set_proto_act, lock_act, seal_act, freeze_act
 use Rattle.hc_ops.specs.Keys.{keys_reply}
 use Rattle.hc_ops.specs.Set.{Outcome, set_outcome}
 use Rattle.hc_ops.specs.SetDid.{set_did}
-use Rattle.hc_objects.specs.Came.{Came}
+use Rattle.hc_objects.specs.Came.{Came, world_of}
 use Rattle.hc_objects.specs.Meaning.{cause_in}
 use Rattle.hc_objects.specs.Modes.{AreAlike, mode_of}
 use Rattle.hc_objects.specs.State.{ObjectsState}
 use Rattle.hc_script.specs.Numbers.{IsCommandBelow}
-use Rattle.hc_script.specs.Verbs.{IsBuilt}
+use Rattle.hc_script.specs.Verbs.{IsBuilt, is_built, verb_of_command}
 use Rattle.hc_script.specs.declared.command.Command.{Command}
 use Rattle.hc_script.specs.declared.command.Command.TheVariants.{New, Get, Set, Define, Has, Own, Delete, Keys, Proto, SetProto, Extensible, Lock, Seal, Freeze, Shape, Same}
 
@@ -42,33 +42,50 @@ pub record Standing : Type 0 where
 abbrev pub without_pace : {P : Type 0} → ObjectsState P → ObjectsState ⊤
 without_pace o = record { heap = record { view = o.heap.view; desk = o.heap.desk; pace = tt }; kept = o.kept; of_null = o.of_null }
 
+-- the state of objects
+abbrev pub state_of : {P : Type 0} → ObjectsState P → State
+state_of o = record { world = world_of o; limit = o.heap.view.shape.objects; objects = without_pace o }
+
 -- the property tables of a state
 abbrev pub tables_of : State → Tables
 tables_of state = record { world = state.world; limit = state.limit }
 
 -- Property tables
 
--- an object of this number is there
-abbrev pub is_there : Tables → ℕ → Bool
-is_there tables o = nat_lt o (length tables.world)
+-- an object of this number is one of so many
+abbrev pub is_among : ℕ → ℕ → Bool
+is_among count o = nat_lt o count
 
--- the object that a value names is there, if it names one
-abbrev pub names_there : Tables → Value → Bool
-names_there tables Undefined = true
-names_there tables Null = true
-names_there tables (Boolean b) = true
-names_there tables (Int integer) = true
-names_there tables (Text text) = true
-names_there tables (Obj o) = is_there tables o
+-- the object that a value names is, if it names one
+abbrev pub names_among : ℕ → Value → Bool
+names_among count Undefined = true
+names_among count Null = true
+names_among count (Boolean b) = true
+names_among count (Int integer) = true
+names_among count (Text text) = true
+names_among count (Obj o) = is_among count o
 
 -- the same of a value that a definition may give, and of a prototype
+abbrev pub given_among : ℕ → Option Value → Bool
+given_among count None = true
+given_among count (Some value) = names_among count value
+
+abbrev pub proto_among : ℕ → Option ℕ → Bool
+proto_among count None = true
+proto_among count (Some o) = is_among count o
+
+-- the same of the objects that are there
+abbrev pub is_there : Tables → ℕ → Bool
+is_there tables o = is_among (length tables.world) o
+
+abbrev pub names_there : Tables → Value → Bool
+names_there tables value = names_among (length tables.world) value
+
 abbrev pub given_there : Tables → Option Value → Bool
-given_there tables None = true
-given_there tables (Some value) = names_there tables value
+given_there tables value = given_among (length tables.world) value
 
 abbrev pub proto_there : Tables → Option ℕ → Bool
-proto_there tables None = true
-proto_there tables (Some o) = is_there tables o
+proto_there tables proto = proto_among (length tables.world) proto
 
 -- a reply, and the tables after it
 pub record Answer : Type 0 where
@@ -96,39 +113,75 @@ acts tables act = replies act.reply (with_world tables (after act.did tables.wor
 abbrev pub where_there : Bool → Tables → Answer → Answer
 where_there there tables answer = if there then answer else replies NoObject tables
 
--- the reply to a command, and the tables after it: first whether each object that it names is there. The commands of the last
--- line ask how objects are kept, or aren't built
-abbrev pub answer_to : Tables → Command → Answer
-answer_to tables (New proto) = where_there (proto_there tables proto) tables (new_answer tables proto)
-answer_to tables (Get o name) = where_there (is_there tables o) tables (replies (get_reply tables.world o name) tables)
-answer_to tables (Set o name value) = where_there (is_there tables o && names_there tables value) tables (set_answer tables (set_outcome tables.world o name value))
-answer_to tables (Define o name d) = where_there (is_there tables o && given_there tables d.value) tables (acts tables (define_act tables.world o name d))
-answer_to tables (Has o name) = where_there (is_there tables o) tables (replies (has_reply tables.world o name) tables)
-answer_to tables (Own o name) = where_there (is_there tables o) tables (replies (own_reply tables.world o name) tables)
-answer_to tables (Delete o name) = where_there (is_there tables o) tables (acts tables (delete_act tables.world o name))
-answer_to tables (Keys o) = where_there (is_there tables o) tables (replies (keys_reply tables.world o) tables)
-answer_to tables (Proto o) = where_there (is_there tables o) tables (replies (Prototype (object tables.world o).proto) tables)
-answer_to tables (SetProto o proto) = where_there (is_there tables o && proto_there tables proto) tables (acts tables (set_proto_act tables.world o proto))
-answer_to tables (Extensible o) = where_there (is_there tables o) tables (replies (Flag (object tables.world o).extensible) tables)
-answer_to tables (Lock o) = where_there (is_there tables o) tables (acts tables (lock_act tables.world o))
-answer_to tables (Seal o) = where_there (is_there tables o) tables (acts tables (seal_act o))
-answer_to tables (Freeze o) = where_there (is_there tables o) tables (acts tables (freeze_act o))
-answer_to tables command = replies NoObject tables
+-- the commands on property tables: all that are built, but for those that ask how objects are kept
+abbrev pub is_on_tables : Command → Bool
+is_on_tables (Shape o) = false
+is_on_tables (Same a b) = false
+is_on_tables command = is_built (verb_of_command command)
 
--- the one change that a command makes, if any
-abbrev pub if_so : Bool → Did → Did
-if_so there did = if there then did else Nothing
+abbrev pub IsOnTables : Command → Type 0
+IsOnTables command = is_on_tables command ≡ true
+
+-- each object that a command on property tables names is there
+abbrev pub all_there : Tables → Command → Bool
+all_there tables (New proto) = proto_there tables proto
+all_there tables (Get o name) = is_there tables o
+all_there tables (Set o name value) = is_there tables o && names_there tables value
+all_there tables (Define o name d) = is_there tables o && given_there tables d.value
+all_there tables (Has o name) = is_there tables o
+all_there tables (Own o name) = is_there tables o
+all_there tables (Delete o name) = is_there tables o
+all_there tables (Keys o) = is_there tables o
+all_there tables (Proto o) = is_there tables o
+all_there tables (SetProto o proto) = is_there tables o && proto_there tables proto
+all_there tables (Extensible o) = is_there tables o
+all_there tables (Lock o) = is_there tables o
+all_there tables (Seal o) = is_there tables o
+all_there tables (Freeze o) = is_there tables o
+all_there tables command = false
+
+-- the reply to such a command where they are, and the tables after it
+abbrev pub answer_there : Tables → Command → Answer
+answer_there tables (New proto) = new_answer tables proto
+answer_there tables (Get o name) = replies (get_reply tables.world o name) tables
+answer_there tables (Set o name value) = set_answer tables (set_outcome tables.world o name value)
+answer_there tables (Define o name d) = acts tables (define_act tables.world o name d)
+answer_there tables (Has o name) = replies (has_reply tables.world o name) tables
+answer_there tables (Own o name) = replies (own_reply tables.world o name) tables
+answer_there tables (Delete o name) = acts tables (delete_act tables.world o name)
+answer_there tables (Keys o) = replies (keys_reply tables.world o) tables
+answer_there tables (Proto o) = replies (Prototype (object tables.world o).proto) tables
+answer_there tables (SetProto o proto) = acts tables (set_proto_act tables.world o proto)
+answer_there tables (Extensible o) = replies (Flag (object tables.world o).extensible) tables
+answer_there tables (Lock o) = acts tables (lock_act tables.world o)
+answer_there tables (Seal o) = acts tables (seal_act o)
+answer_there tables (Freeze o) = acts tables (freeze_act o)
+answer_there tables command = replies NoObject tables
+
+-- the reply to a command, and the tables after it: first whether each object that it names is there. The other commands
+-- leave the tables
+abbrev pub answer_to : Tables → Command → Answer
+answer_to tables command = where_there (all_there tables command) tables (answer_there tables command)
+
+-- the one change that a command makes where each object that it names is there, if any
+abbrev pub did_there : Tables → Command → Did
+did_there tables (New proto) = if length tables.world == tables.limit then Nothing else Created proto
+did_there tables (Set o name value) = set_did tables.world o name value
+did_there tables (Define o name d) = (define_act tables.world o name d).did
+did_there tables (Delete o name) = (delete_act tables.world o name).did
+did_there tables (SetProto o proto) = (set_proto_act tables.world o proto).did
+did_there tables (Lock o) = (lock_act tables.world o).did
+did_there tables (Seal o) = (seal_act o).did
+did_there tables (Freeze o) = (freeze_act o).did
+did_there tables command = Nothing
 
 abbrev pub did_by : Tables → Command → Did
-did_by tables (New proto) = if_so (proto_there tables proto) (if length tables.world == tables.limit then Nothing else Created proto)
-did_by tables (Set o name value) = if_so (is_there tables o && names_there tables value) (set_did tables.world o name value)
-did_by tables (Define o name d) = if_so (is_there tables o && given_there tables d.value) (define_act tables.world o name d).did
-did_by tables (Delete o name) = if_so (is_there tables o) (delete_act tables.world o name).did
-did_by tables (SetProto o proto) = if_so (is_there tables o && proto_there tables proto) (set_proto_act tables.world o proto).did
-did_by tables (Lock o) = if_so (is_there tables o) (lock_act tables.world o).did
-did_by tables (Seal o) = if_so (is_there tables o) (seal_act o).did
-did_by tables (Freeze o) = if_so (is_there tables o) (freeze_act o).did
-did_by tables command = Nothing
+did_by tables command = if all_there tables command then did_there tables command else Nothing
+
+-- what a command did that lacked memory: a list of names only reads
+abbrev pub did_in_want : Command → Did
+did_in_want (Keys o) = Nothing
+did_in_want command = Moved
 
 -- a command on property tables may be answered so, and leave these
 pub record DoesOnTables (old : Tables) (command : Command) (reply : Reply) (new : Tables) : Type 0 where

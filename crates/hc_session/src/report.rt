@@ -1,15 +1,23 @@
-ghost use Rattle.std.specs.Prelude.{◌≡◌, ◌<◌, ◌++◌, codes, length, OnOk};
-ghost use Rattle.std.specs.Fmt.{decimal, signed_decimal};
+ghost use Rattle.std.specs.Prelude.{◌≡◌, ◌++◌, codes, length, OnOk};
+ghost use Rattle.std.specs.Fmt.{decimal};
 ghost use Rattle.hc_script.specs.Values.{object_word};
 ghost use Rattle.hc_script.specs.Numbers.{IsValueBelow};
 ghost use Rattle.hc_session.specs.Fault.{what_text, refusal_line};
 ghost use Rattle.hc_session.specs.Named.{IsShown};
-ghost use Rattle.hc_session.specs.Text.{value_text, reply_text, reply_line, bool_text, named};
+ghost use Rattle.hc_session.specs.Text.{value_text, reply_text, reply_line};
+
+mod kept;
+mod list;
+mod property;
+mod words;
 
 use hc_names::Names;
 use hc_script::What;
 use hc_value::{Memory, Reply, Value};
-use itoa::Buffer;
+use kept::{push_mode, push_proto};
+use list::push_list;
+use property::push_property;
+use words::{push_bool, push_number, push_object, push_text, push_value};
 
 /// Puts the line of a reply behind a text.
 pub fn render_reply(out: &mut Vec<u8>, names: &Names, reply: &Reply) -> Result<(), Memory>
@@ -32,74 +40,14 @@ fn push_reply(out: &mut Vec<u8>, names: &Names, reply: &Reply) -> Result<(), Mem
         Reply::Call(f, o) => push_call(out, *f, *o),
         Reply::CallWith(f, o, value) => push_call_with(out, names, *f, *o, *value),
         Reply::Flag(b) => push_bool(out, *b),
+        Reply::Property(property) => push_property(out, names, property),
+        Reply::NameList(list) => push_list(out, names, list),
+        Reply::Proto(proto) => push_proto(out, *proto),
+        Reply::Shape(mode) => push_mode(out, *mode),
         Reply::NoObject => push_text(out, b"no object"),
         Reply::Full => push_text(out, b"full"),
         _ => unreachable!(),
     }
-}
-
-fn push_text(out: &mut Vec<u8>, text: &[u8]) -> Result<(), Memory>
-    ensures ok { OnOk result (out.new.items ≡ out.old.items ++ text.now) }
-{
-    out.extend_from_slice(text)?;
-    Ok(())
-}
-
-fn push_number(out: &mut Vec<u8>, n: u64) -> Result<(), Memory>
-    ensures ok { OnOk result (out.new.items ≡ out.old.items ++ decimal n) }
-{
-    let mut buffer = Buffer::new();
-    push_text(out, buffer.format(n).as_bytes())
-}
-
-fn push_integer(out: &mut Vec<u8>, n: i64) -> Result<(), Memory>
-    ensures ok { OnOk result (out.new.items ≡ out.old.items ++ signed_decimal n) }
-{
-    let mut buffer = Buffer::new();
-    push_text(out, buffer.format(n).as_bytes())
-}
-
-fn push_object(out: &mut Vec<u8>, o: u32) -> Result<(), Memory>
-    ensures ok { OnOk result (out.new.items ≡ out.old.items ++ object_word o) }
-{
-    push_text(out, b"#")?;
-    push_number(out, u64::from(o))
-}
-
-fn push_bool(out: &mut Vec<u8>, b: bool) -> Result<(), Memory>
-    ensures ok { OnOk result (out.new.items ≡ out.old.items ++ bool_text b) }
-{
-    if b {
-        push_text(out, b"true")
-    } else {
-        push_text(out, b"false")
-    }
-}
-
-fn push_value(out: &mut Vec<u8>, names: &Names, value: Value) -> Result<(), Memory>
-    requires { IsValueBelow (length names.now) value }
-    ensures ok { OnOk result (out.new.items ≡ out.old.items ++ value_text names.now value) }
-{
-    match value {
-        Value::Undefined => push_text(out, b"undefined"),
-        Value::Null => push_text(out, b"null"),
-        Value::Bool(b) => push_bool(out, b),
-        Value::Int(n) => push_integer(out, n.get()),
-        Value::Text(text) => push_quoted(out, names, text),
-        Value::Obj(o) => push_object(out, o),
-    }
-}
-
-fn push_quoted(out: &mut Vec<u8>, names: &Names, text: u32) -> Result<(), Memory>
-    requires { text < length names.now }
-    ensures ok { OnOk result (out.new.items ≡ out.old.items ++ (codes "\"" ++ named names.now text ++ codes "\"")) }
-{
-    let Some(text) = names.text(text) else {
-        unreachable!();
-    };
-    push_text(out, b"\"")?;
-    push_text(out, text.as_bytes())?;
-    push_text(out, b"\"")
 }
 
 fn push_call(out: &mut Vec<u8>, f: u32, o: u32) -> Result<(), Memory>

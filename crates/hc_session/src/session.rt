@@ -1,7 +1,11 @@
-ghost use Rattle.std.specs.Prelude.{◌≡◌, [], true, false, IfOk, OnErr};
+ghost use Rattle.std.specs.Prelude.{◌≡◌, ◌≤◌, [], true, false, IfOk, OnErr, ⊤};
+ghost use Rattle.hc_value.specs.declared.word.TheConstants.{NUMBER_LIMIT};
 ghost use Rattle.hc_layout.specs.Shape.{IsShape};
-ghost use Rattle.hc_session.specs.State.{HasNumbers, Does};
+ghost use Rattle.hc_table.specs.Changes.{Moved};
+ghost use Rattle.hc_objects.specs.Came.{Came, IsStill, world_of};
 ghost use Rattle.hc_script.specs.Verbs.{IsBuilt};
+ghost use Rattle.hc_script.specs.declared.command.Command.TheVariants.{Shape as ShapeCommand, Same as SameCommand};
+ghost use Rattle.hc_session.specs.State.{HasNumbers, Does, IsReplyTo, state_of, tables_of, without_pace};
 
 use crate::perform::perform;
 use hc_board::Writer;
@@ -45,12 +49,12 @@ impl<P: Pace> Model for Session<P> {
     ghost Value = { Standing };
 
     ghost use Rattle.std.specs.Prelude.{not};
-    ghost use Rattle.hc_objects.specs.Came.{world_of};
     ghost use Rattle.hc_session.specs.Fresh.{IsSession};
+    ghost use Rattle.hc_session.specs.State.{state_of, tables_of};
 
-    ghost view = { λ s. record { state = record { world = world_of s.objects; limit = s.objects.heap.view.shape.objects }; fresh = not s.begun } };
+    ghost view = { λ s. record { state = state_of s.objects; fresh = not s.begun } };
 
-    ghost invariant = { λ s. IsSession (record { world = world_of s.objects; limit = s.objects.heap.view.shape.objects }) s.begun };
+    ghost invariant = { λ s. IsSession (tables_of (state_of s.objects)) s.begun };
 }
 
 impl Session<Scripted> {
@@ -78,16 +82,17 @@ impl<P: Pace> Session<P> {
         !self.begun
     }
 
-    /// Performs a command. After want of memory nothing has changed.
+    /// Performs a command. After want of memory the tables are as they were; how they are kept may have moved.
     pub fn command(&mut self, command: &Command) -> Result<Reply, Memory>
         requires built { IsBuilt command.now }
         requires numbers { HasNumbers command.now }
         ensures done { IfOk result (λ reply. Does self.old.state command.now reply self.new.state) }
-        ensures err { OnErr result (self.new.state ≡ self.old.state) }
+        ensures err { OnErr result (tables_of self.new.state ≡ tables_of self.old.state) }
+        ensures moved { OnErr result (Came (λ _ _ _ _. ⊤) self.old.state.objects Moved self.new.state.objects) }
         ensures fresh { self.new.fresh ≡ false }
     {
         self.begun = true;
-        perform(&mut self.objects, command)
+        obey(&mut self.objects, command, self.alloc)
     }
 
     // The allocator that the session was made with.
@@ -96,4 +101,48 @@ impl<P: Pace> Session<P> {
     {
         self.alloc
     }
+}
+
+// Performs a command on objects.
+fn obey<P: Pace>(
+    objects: &mut Objects<P>,
+    command: &Command,
+    alloc: Global,
+) -> Result<Reply, Memory>
+    requires built { IsBuilt command.now }
+    requires numbers { HasNumbers command.now }
+    requires few { objects.old.heap.view.shape.objects ≤ NUMBER_LIMIT }
+    ensures done { IfOk result (λ reply. Does (state_of objects.old) command.now reply (state_of objects.new)) }
+    ensures err { OnErr result (world_of objects.new ≡ world_of objects.old) }
+    ensures moved { OnErr result (Came (λ _ _ _ _. ⊤) (without_pace objects.old) Moved (without_pace objects.new)) }
+    ensures limit { objects.new.heap.view.shape.objects ≡ objects.old.heap.view.shape.objects }
+{
+    match command {
+        Command::Shape(o) => tell_shape(objects, *o),
+        Command::Same(a, b) => tell_same(objects, *a, *b),
+        _ => perform(objects, command, alloc),
+    }
+}
+
+// How an object is kept, if it is there.
+fn tell_shape<P: Pace>(objects: &mut Objects<P>, o: u32) -> Result<Reply, Memory>
+    ensures reply { IfOk result (λ reply. IsReplyTo (state_of objects.old) (ShapeCommand o) reply) }
+    ensures still { IsStill objects.old objects.new }
+{
+    if o >= objects.count() {
+        return Ok(Reply::NoObject);
+    }
+    Ok(Reply::Shape(objects.shape(o)?))
+}
+
+// Whether two objects are fast and have one map, if they are there.
+fn tell_same<P: Pace>(objects: &mut Objects<P>, a: u32, b: u32) -> Result<Reply, Memory>
+    ensures reply { IfOk result (λ reply. IsReplyTo (state_of objects.old) (SameCommand a b) reply) }
+    ensures still { IsStill objects.old objects.new }
+{
+    let count = objects.count();
+    if a >= count || b >= count {
+        return Ok(Reply::NoObject);
+    }
+    Ok(Reply::Flag(objects.same(a, b)?))
 }

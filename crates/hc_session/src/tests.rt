@@ -93,7 +93,7 @@ fn scripts_are_answered(rt: HostRuntime) -> Result<(), Fail> {
             Status::Done,
         ),
         whole(
-            "new null\n; a comment\n\n  \n get  #0  y \nkeys #0\nget #0 y\n",
+            "new null\n; a comment\n\n  \n get  #0  y \nsite load y\nget #0 y\n",
             "= #0\n= undefined\n! line 6 unbuilt\n",
             Status::BadScript(6, What::Unbuilt),
         ),
@@ -106,6 +106,69 @@ fn scripts_are_answered(rt: HostRuntime) -> Result<(), Fail> {
             "new null\nnew #0\nset #0 x 1\nget #1 x\nset #1 x 2\nget #0 x\n",
             "= #0\n= #1\n= true\n= 1\n= true\n= 1\n",
             Status::Done,
+        ),
+        whole(
+            "new null\ndefine #0 x value=1\nset #0 x 2\nnew #0\nset #1 x 3\nkeys #1\n",
+            "= #0\n= true\n= false\n= #1\n= false\n= []\n",
+            Status::Done,
+        ),
+        whole(
+            "new null\ndefine #0 x get=f7\nget #0 x\nset #0 x 1\n",
+            "= #0\n= true\n= call f7 #0\n= false\n",
+            Status::Done,
+        ),
+        whole(
+            "new null\ndefine #0 x set=f8\nset #0 x 5\nget #0 x\nnew #0\nset #1 x 6\n",
+            "= #0\n= true\n= call f8 #0 5\n= undefined\n= #1\n= call f8 #1 6\n",
+            Status::Done,
+        ),
+        whole(
+            "new null\ndefine #0 x value=1\ndefine #0 x value=1\ndefine #0 x value=2\n\
+             define #0 x writable=true\ndefine #0 x enumerable=true\ndefine #0 x get=f1\ndelete #0 x\n",
+            "= #0\n= true\n= true\n= false\n= false\n= false\n= false\n= false\n",
+            Status::Done,
+        ),
+        whole(
+            "new null\nset #0 x 1\nfreeze #0\nset #0 x 2\nset #0 y 1\nown #0 x\nextensible #0\nseal #0\nlock #0\n",
+            "= #0\n= true\n= true\n= false\n= false\n\
+             = {value=1 writable=false enumerable=true configurable=false}\n= false\n= true\n= true\n",
+            Status::Done,
+        ),
+        whole(
+            "new null\ndefine #0 x get=f7 enumerable=true\nown #0 x\nown #0 y\nnew #0\nhas #1 x\nown #1 x\nproto #1\n",
+            "= #0\n= true\n= {get=f7 set=undefined enumerable=true configurable=false}\n= undefined\n\
+             = #1\n= true\n= undefined\n= #0\n",
+            Status::Done,
+        ),
+        whole(
+            "new null\nnew #0\nsetproto #0 #1\nsetproto #0 null\nsetproto #1 null\nsetproto #0 #1\n",
+            "= #0\n= #1\n= false\n= true\n= true\n= true\n",
+            Status::Done,
+        ),
+        whole(
+            "new null\nset #0 a 1\nset #0 b 2\nset #0 c 3\ndelete #0 b\nshape #0\nkeys #0\n",
+            "= #0\n= true\n= true\n= true\n= true\n= slow deleted\n= [a c]\n",
+            Status::Done,
+        ),
+        whole(
+            "new null\nset #0 a 1\nset #0 b 2\nset #0 c 3\nshape #0\nset #0 d 4\nshape #0\nkeys #0\n",
+            "= #0\n= true\n= true\n= true\n= fast 3\n= true\n= slow space\n= [a b c d]\n",
+            Status::Done,
+        ),
+        whole(
+            "new null\nset #0 x 1\nshape #0\nlock #0\nshape #0\nset #0 y 1\nset #0 x 2\nsetproto #0 #0\nsetproto #0 null\n",
+            "= #0\n= true\n= fast 1\n= true\n= slow reconfigured\n= false\n= true\n= false\n= true\n",
+            Status::Done,
+        ),
+        whole(
+            "new null\nnew null\nsame #0 #1\nsame #0 #0\nnew #0\nsame #0 #1\nsame #0 #0\nlock #1\nsame #1 #1\n",
+            "= #0\n= #1\n= true\n= true\n= #2\n= false\n= true\n= true\n= false\n",
+            Status::Done,
+        ),
+        whole(
+            "new null\nset #0 \"k\" 1\nset #0 x \"k\"\n",
+            "= #0\n! line 2 form\n",
+            Status::BadScript(2, What::Form),
         ),
         Case {
             words: &["replay", "x"],
@@ -121,7 +184,7 @@ fn scripts_are_answered(rt: HostRuntime) -> Result<(), Fail> {
         },
     ];
     for case in &cases {
-        check(&rt, rt.alloc(), Shape::usual(), case)?;
+        check(&rt, rt.alloc(), Shape::small(), case)?;
     }
     Ok(())
 }
@@ -177,7 +240,7 @@ fn cuts_and_faults_leave_a_prefix(rt: HostRuntime) -> Result<(), Fail> {
         },
     ];
     for case in &cases {
-        check(&rt, rt.alloc(), Shape::usual(), case)?;
+        check(&rt, rt.alloc(), Shape::small(), case)?;
     }
     Ok(())
 }
@@ -294,19 +357,50 @@ const LINES: &[(&str, &str)] = &[
     ("set #0 x", "! line 2 form"),
     ("set #0", "! line 2 form"),
     ("set", "! line 2 form"),
-    ("has #0 x", "! line 2 unbuilt"),
-    ("own #0 x", "! line 2 unbuilt"),
-    ("delete #0 x", "! line 2 unbuilt"),
-    ("define #0 x value=1", "! line 2 unbuilt"),
-    ("keys #0", "! line 2 unbuilt"),
-    ("proto #0", "! line 2 unbuilt"),
-    ("setproto #0 null", "! line 2 unbuilt"),
-    ("extensible #0", "! line 2 unbuilt"),
-    ("lock #0", "! line 2 unbuilt"),
-    ("seal #0", "! line 2 unbuilt"),
-    ("freeze #0", "! line 2 unbuilt"),
-    ("shape #0", "! line 2 unbuilt"),
-    ("same #0 #0", "! line 2 unbuilt"),
+    ("has #0 x", "= false"),
+    ("own #0 x", "= undefined"),
+    ("delete #0 x", "= true"),
+    ("define #0 x value=1", "= true"),
+    ("keys #0", "= []"),
+    ("proto #0", "= null"),
+    ("setproto #0 null", "= true"),
+    ("extensible #0", "= true"),
+    ("lock #0", "= true"),
+    ("seal #0", "= true"),
+    ("freeze #0", "= true"),
+    ("shape #0", "= fast 0"),
+    ("same #0 #0", "= true"),
+    ("define #0 x", "= true"),
+    (
+        "define #0 x configurable=true writable=false enumerable=true value=\"a b\"",
+        "= true",
+    ),
+    ("define #0 x get=undefined set=f1048575", "= true"),
+    ("define #0 x value=#0", "= true"),
+    ("define #0 x value=#1", "= no object"),
+    ("define #1 x", "= no object"),
+    ("define #0 x set=f1048576", "! line 2 form"),
+    ("define #0 x value=1 get=f1", "! line 2 form"),
+    ("define #0 x writable=true set=f1", "! line 2 form"),
+    ("define #0 x value=1 value=1", "! line 2 form"),
+    ("define #0 x enumerable=1", "! line 2 form"),
+    ("has #1 x", "= no object"),
+    ("own #1 x", "= no object"),
+    ("delete #1 x", "= no object"),
+    ("keys #1", "= no object"),
+    ("proto #1", "= no object"),
+    ("setproto #1 null", "= no object"),
+    ("setproto #0 #1", "= no object"),
+    ("setproto #0 #0", "= false"),
+    ("extensible #1", "= no object"),
+    ("lock #1", "= no object"),
+    ("seal #1", "= no object"),
+    ("freeze #1", "= no object"),
+    ("shape #1", "= no object"),
+    ("same #0 #1", "= no object"),
+    ("same #1 #0", "= no object"),
+    ("same #0", "! line 2 form"),
+    ("keys #0 x", "! line 2 form"),
     ("site load x", "! line 2 unbuilt"),
     ("exec 0 #0", "! line 2 unbuilt"),
     ("compile 0", "! line 2 unbuilt"),
@@ -365,6 +459,18 @@ fn words_and_lines_have_limits(rt: HostRuntime) -> Result<(), Fail> {
 }
 
 fn assert_output(rt: &impl Abort, alloc: Global, script: &str, output: &str) -> Result<(), Fail> {
+    assert_output_in(rt, alloc, Shape::small(), script, output)
+}
+
+fn assert_output_in(
+    rt: &impl Abort,
+    alloc: Global,
+    shape: Shape,
+    script: &str,
+    output: &str,
+) -> Result<(), Fail>
+    requires { IsShape shape }
+{
     let words = words_of(alloc, REPLAY)?;
     let bytes = Bytes::from_vec(script.as_bytes().to_vec(alloc)?);
     let mut source = MemSource::new(
@@ -373,9 +479,38 @@ fn assert_output(rt: &impl Abort, alloc: Global, script: &str, output: &str) -> 
         Calls::from_vec(Vec::new(alloc)),
     );
     let mut sink = MemSink::new(alloc, Calls::from_vec(Vec::new(alloc)));
-    let mut session = Session::scripted(alloc, Shape::small())?;
+    let mut session = Session::scripted(alloc, shape)?;
     assert!(rt; session.fresh());
     let _status = replay(&words, &mut source, &mut sink, &mut session);
     assert_eq!(rt; sink.bytes(), output.as_bytes(), "{script}");
     Ok(())
+}
+
+// Objects that get the same properties in the same order are kept alike, in a shape with room for them.
+#[test]
+fn objects_share_maps(rt: HostRuntime) -> Result<(), Fail> {
+    let case = whole(
+        "new null\nset #0 x 1\nset #0 y 2\nnew null\nset #1 y 2\nset #1 x 1\nsame #0 #1\n\
+         new null\nset #2 x 3\nset #2 y 4\nsame #0 #2\ndelete #0 y\ndelete #2 y\nsame #0 #2\n",
+        "= #0\n= true\n= true\n= #1\n= true\n= true\n= false\n\
+         = #2\n= true\n= true\n= true\n= true\n= true\n= true\n",
+        Status::Done,
+    );
+    check(&rt, rt.alloc(), Shape::usual(), &case)
+}
+
+// The property behind the sixty-fourth makes an object slow.
+#[test]
+fn many_properties_make_an_object_slow(rt: HostRuntime) -> Result<(), Fail> {
+    let alloc = rt.alloc();
+    let mut script = String::from_str(alloc, "new null\n")?;
+    let mut output = String::from_str(alloc, "= #0\n")?;
+    for k in 0..64u32 {
+        let line = format!(in alloc; "set #0 p{k} 1\n")?;
+        script.push_str(line.as_str())?;
+        output.push_str("= true\n")?;
+    }
+    script.push_str("shape #0\nset #0 p64 1\nshape #0\n")?;
+    output.push_str("= fast 64\n= true\n= slow many\n")?;
+    assert_output_in(&rt, alloc, Shape::usual(), script.as_str(), output.as_str())
 }

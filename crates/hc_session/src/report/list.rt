@@ -1,0 +1,45 @@
+ghost use Rattle.std.specs.Prelude.{◌≡◌, ◌<◌, ◌++◌, All, codes, length, slice_index, OnOk};
+ghost use Rattle.hc_session.specs.Text.{named, spaced};
+
+use super::words::push_text;
+use hc_names::Names;
+use hc_value::{Memory, Names32};
+
+/// Puts names between brackets behind a text.
+pub fn push_list(out: &mut Vec<u8>, names: &Names, list: &Names32) -> Result<(), Memory>
+    requires { All (λ name. name < length names.now) list.now }
+    ensures ok { OnOk result (out.new.items ≡ out.old.items ++ (codes "[" ++ spaced names.now list.now ++ codes "]")) }
+{
+    push_text(out, b"[")?;
+    push_names(out, names, list)?;
+    push_text(out, b"]")
+}
+
+// Names parted by spaces.
+fn push_names(out: &mut Vec<u8>, names: &Names, list: &Names32) -> Result<(), Memory>
+    requires { All (λ name. name < length names.now) list.now }
+    ensures ok { OnOk result (out.new.items ≡ out.old.items ++ spaced names.now list.now) }
+{
+    for i in 0..list.len() {
+        if i > 0 {
+            push_text(out, b" ")?;
+        }
+        push_nth(out, names, list, i)?;
+    }
+    Ok(())
+}
+
+// The name at a place.
+fn push_nth(out: &mut Vec<u8>, names: &Names, list: &Names32, i: u32) -> Result<(), Memory>
+    requires there { i < length list.now }
+    requires named { All (λ name. name < length names.now) list.now }
+    ensures ok { OnOk result (out.new.items ≡ out.old.items ++ named names.now (slice_index list.now i)) }
+{
+    let Some(n) = list.at(i) else {
+        unreachable!();
+    };
+    let Some(name) = names.text(*n) else {
+        unreachable!();
+    };
+    push_text(out, name.as_bytes())
+}
