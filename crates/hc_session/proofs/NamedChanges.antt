@@ -1,11 +1,11 @@
 -- Changes keep that each name and each text in the objects has its number among the names, where it holds of what they put in.
-use Rattle.std.proofs.Common.{ℕ, zero, suc, ◌<◌, Bool, true, false, List, [], ◌∷◌, ◌++◌, map}
+use Rattle.std.proofs.Common.{ℕ, zero, suc, Bool, List, [], ◌∷◌, ◌++◌, map}
 use Rattle.std.specs.Prelude.{slice_set}
 use Rattle.hc_value.specs.declared.prop.Held.{Held}
 use Rattle.hc_value.specs.declared.prop.Prop.{Prop}
 use Rattle.hc_table.specs.Attributes.{restricted}
 use Rattle.hc_table.specs.Changes.{Did, Nothing, Moved, Created, Added, Wrote, Reconfigured, Removed, Linked, Locked, Restricted, after, removed_at}
-use Rattle.hc_table.specs.World.{Object, World, object, props_at, held_at}
+use Rattle.hc_table.specs.World.{Object, World, props_at, held_at}
 use Rattle.hc_session.specs.Named.{IsNamedHeld, IsNamedProp, AreNamedProps, IsNamedWorld}
 
 -- a world with one more object, or with another object in a place

@@ -10,7 +10,7 @@ use Rattle.hc_ops.specs.Found.{own_reply}
 use Rattle.hc_ops.specs.Get.{read_of, read_nearest, get_reply}
 use Rattle.hc_ops.specs.Keys.{keys_reply}
 use Rattle.hc_ops.specs.Nearest.{Nearest, own_or_further, nearest_among, nearest}
-use Rattle.hc_session.specs.Named.{IsNamedHeld, IsNamedProp, AreNamedProps, IsNamedWorld, IsShown}
+use Rattle.hc_session.specs.Named.{IsNamedHeld, AreNamedProps, IsNamedWorld, IsShown}
 
 -- what was found holds such a text alone
 abbrev IsNamedProperty : ℕ → Option Prop → Type 0

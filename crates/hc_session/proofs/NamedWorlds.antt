@@ -1,5 +1,5 @@
 -- Commands keep that each name and each text in the objects has its number among the names, and so have their replies.
-use Rattle.std.proofs.Common.{◌≡◌, ℕ, ◌≤◌, Bool, true, false, List, [], ◌∷◌, length, ap, arith, Option, Some, None}
+use Rattle.std.proofs.Common.{ℕ, ◌≤◌, Bool, true, false, List, [], ◌∷◌, length, ap, arith, Option, Some, None}
 use Rattle.std.specs.Prelude.{◌&&◌, ◌==◌, if◌then◌else◌}
 use Rattle.hc_names.specs.declared.TheConstants.{MAX_NAMES}
 use Rattle.hc_value.specs.declared.prop.Held.{Held}
@@ -10,14 +10,14 @@ use Rattle.hc_value.specs.declared.value.Value.{Value}
 use Rattle.hc_value.specs.declared.value.Value.TheVariants.{Undefined, Null, Bool as Boolean, Int, Text, Obj}
 use Rattle.hc_value.specs.declared.word.TheConstants.{TEXT_LIMIT}
 use Rattle.hc_table.specs.Kept.{Kept as Tables}
-use Rattle.hc_table.specs.World.{World, object, props_at}
+use Rattle.hc_table.specs.World.{World, props_at}
 use Rattle.hc_ops.specs.Act.{Act}
 use Rattle.hc_ops.specs.Integrity.{seal_act, freeze_act}
 use Rattle.hc_ops.specs.Nearest.{nearest}
 use Rattle.hc_script.specs.Numbers.{IsValueBelow, IsGivenBelow, IsCommandBelow}
 use Rattle.hc_script.specs.declared.command.Command.{Command}
 use Rattle.hc_script.specs.declared.command.Command.TheVariants.{New, Get, Set, Define, Has, Own, Delete, Keys, Proto, SetProto, Extensible, Lock, Seal, Freeze, Shape, Same, Declare, Exec}
-use Rattle.hc_session.specs.Named.{IsNamedHeld, IsNamedProp, AreNamedProps, IsNamedWorld, IsShown}
+use Rattle.hc_session.specs.Named.{IsNamedHeld, AreNamedProps, IsNamedWorld, IsShown}
 use Rattle.hc_session.specs.State.{State, Does, Answer, HasNumbers, IsReplyTo, IfThere, tables_of, is_there, names_there, given_there, proto_there, answer_to, acts}
 use Rattle.hc_session.proofs.NamedActs.{IsNamedAct, defined_named, deleted_named, linked_named, locked_named}
 use Rattle.hc_session.proofs.NamedChanges.{object_added, after_named}

@@ -9,6 +9,8 @@ ghost use Rattle.hc_session.specs.Text.{value_text, reply_text, reply_line};
 mod kept;
 mod list;
 mod property;
+#[cfg(test)]
+mod tests;
 mod words;
 
 use hc_names::Names;

@@ -1,7 +1,7 @@
 -- One more name of the list is behind the text.
-use Rattle.std.proofs.Common.{◌≡◌, ◌<◌, ◌++◌, ℕ, zero, suc, ◌+◌, List, [], ◌∷◌, length, take, get_or, refl, sym, ap, ◌∙◌, append_assoc, arith}
+use Rattle.std.proofs.Common.{◌≡◌, ◌<◌, ◌++◌, ℕ, ◌+◌, List, [], ◌∷◌, length, take, get_or, refl, sym, ap, ◌∙◌, append_assoc, arith}
 use Rattle.std.specs.Prelude.{codes}
-use Rattle.std.proofs.lemmas.List.{take_more, take_all, length-take-le}
+use Rattle.std.proofs.lemmas.List.{take_more, length-take-le}
 use Rattle.hc_session.specs.Text.{named, spaced}
 use Rattle.hc_session.proofs.report.list.push_names.Goals as goal
 use Rattle.hc_session.proofs.report.list.push_names.Goals.{then-i-gt0+in_ok-push_text, else-i-gt0}
