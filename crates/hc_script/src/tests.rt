@@ -266,23 +266,13 @@ fn lines_without_a_form_and_unbuilt_ones_are_refused(rt: HostRuntime) -> Result<
         );
     }
     let unbuilt = [
-        "has #0 x",
-        "own #0 x",
-        "delete #0 x",
-        "define #0 x",
-        "keys #0",
-        "proto #0",
-        "setproto #0 null",
-        "extensible #0",
-        "lock #0",
-        "seal #0",
-        "freeze #0",
-        "shape #0",
-        "same #0 #0",
         "site load x",
+        "site store x",
         "exec 0 #0",
+        "exec 0 #0 true",
         "compile 0",
         "step 0 1",
+        "step 0 all",
         "during 1 0 1",
         "finish 0",
     ];
