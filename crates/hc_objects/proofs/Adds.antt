@@ -17,7 +17,8 @@ use Rattle.hc_objects.specs.Meaning.{Dictionary, cause_in, kept_of, world}
 use Rattle.hc_objects.specs.State.{ObjectsState}
 use Rattle.hc_objects.specs.Modes.{Becomes, StaysFast, IsOne, IsWithin, add_need, if_many}
 use Rattle.hc_objects.specs.Came.{IsStill, Steps, Made, world_of}
-use Rattle.hc_objects.proofs.Composing.{left-one, left-slow, slow-one, all-stay, cause-but, no-cause, protos-same, within-same}
+use Rattle.hc_objects.proofs.Composing.{left-one, left-slow, slow-one, all-stay, cause-but, no-cause, protos-same}
+use Rattle.hc_objects.proofs.Needing.{within-same}
 
 module _ {P : Type 0} (went : P → List Access → List Access → P → Type 0) where
   -- a fast object became slow, and nothing else was done

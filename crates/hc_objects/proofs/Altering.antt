@@ -15,7 +15,8 @@ use Rattle.hc_objects.specs.Meaning.{Dictionary}
 use Rattle.hc_objects.specs.Modes.{Modes, Names, need_of}
 use Rattle.hc_objects.specs.State.{ObjectsState}
 use Rattle.hc_objects.specs.Came.{Steps, Made}
-use Rattle.hc_objects.proofs.Composing.{steps-on, within-same, protos-same}
+use Rattle.hc_objects.proofs.Composing.{steps-on, protos-same}
+use Rattle.hc_objects.proofs.Needing.{within-same}
 use Rattle.hc_objects.proofs.Slowed.{held-set}
 
 -- whether a dictionary is kept

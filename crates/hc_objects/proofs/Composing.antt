@@ -2,22 +2,21 @@
 use Rattle.std.proofs.Common.{◌≡◌, ◌≢◌, ℕ, List, Option, Some, None, refl, sym, ap, ◌∙◌, subst, arith}
 use Rattle.std.specs.Prelude.{IfSome, option_map}
 use Rattle.hc_board.specs.Trail.{Access}
-use Rattle.hc_layout.specs.declared.shape.Shape.{Shape}
 use Rattle.hc_value.specs.declared.reply.Cause.{Cause}
 use Rattle.hc_heap.specs.Writes.{Trail}
 use Rattle.hc_heap.specs.Readings.{root_in}
 use Rattle.hc_heap.specs.Frames.{goes-on, extends-none}
 use Rattle.hc_heap.specs.States.{Goes}
-use Rattle.hc_tree.specs.declared.need.Need.{Need}
 use Rattle.hc_tree.specs.Needs.{no_need}
 use Rattle.hc_table.specs.Changes.{Did, Moved, after}
 use Rattle.hc_table.specs.World.{World}
 use Rattle.hc_objects.specs.Changes.{KeptBut}
 use Rattle.hc_objects.specs.Meaning.{Dictionary, cause_in, kept_of}
-use Rattle.hc_objects.specs.Modes.{IsOne, IsWithin, Becomes, SlowOnesStay, AllStay, Names, ProtosAfter}
+use Rattle.hc_objects.specs.Modes.{IsOne, Becomes, SlowOnesStay, AllStay, Names, ProtosAfter}
 use Rattle.hc_objects.specs.State.{ObjectsState}
 use Rattle.hc_objects.specs.Came.{IsStill, Steps, Made, world_of}
 use Rattle.hc_objects.proofs.Sound.{same-or}
+use Rattle.hc_objects.proofs.Needing.{within-same}
 
 -- Steps
 
@@ -99,22 +98,6 @@ pub one-stays : {P : Type 0} (a b : ObjectsState P) (o : ℕ) → KeptBut o a.ke
 one-stays {P} a b o but same = λ p. same-or p o (cause_in b.kept p ≡ cause_in a.kept p)
     (λ is. ap (λ (q : ℕ). cause_in b.kept q) is ∙ same ∙ ap (λ (q : ℕ). cause_in a.kept q) (sym is))
     (λ other. cause-but a.kept b.kept o p but other)
-
--- Needs
-
--- nothing was handed out
-pub within-same : (need : Need) (a b : Shape) → b ≡ a → IsWithin need a b
-within-same need a b same = subst (λ (s : Shape). IsWithin need a s) (sym same) (record {
-  maps = omega arith;
-  entries = omega arith;
-  fields = omega arith;
-  links = omega arith;
-  slots = omega arith;
-})
-
--- nothing was handed out, and then no more than is needed
-pub within-on : (need : Need) (a b c : Shape) → b ≡ a → IsWithin need b c → IsWithin need a c
-within-on need a b c same h = subst (λ (s : Shape). IsWithin need s c) same h
 
 -- Prototypes
 

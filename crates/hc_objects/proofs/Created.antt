@@ -23,6 +23,7 @@ use Rattle.hc_objects.specs.Modes.{Becomes, IsNamed, IsWithin, StaysFast, both, 
 use Rattle.hc_objects.specs.State.{ObjectsState}
 use Rattle.hc_objects.proofs.Become.{with-none}
 use Rattle.hc_objects.proofs.Composing.{cause-but}
+use Rattle.hc_objects.proofs.Needing.{IsAtMost, none-least, same-least}
 use Rattle.hc_objects.proofs.Worlds.{length-world}
 
 -- Needs
@@ -84,20 +85,6 @@ module _ (v w : View) (j : ℕ) (first next : Need) (used : w.used ≡ with_need
     slots = omega (arith, slots, of_slots, h.slots);
   }
 
--- a need that is at most another
-record IsAtMost (a b : Need) : Type 0 where
-  maps : a.maps ≤ b.maps
-  entries : a.entries ≤ b.entries
-  fields : a.fields ≤ b.fields
-  links : a.links ≤ b.links
-  slots : a.slots ≤ b.slots
-
-none-least : (b : Need) → IsAtMost no_need b
-none-least b = record { maps = omega arith; entries = omega arith; fields = omega arith; links = omega arith; slots = omega arith }
-
-same-least : (b : Need) → IsAtMost b b
-same-least b = record { maps = omega arith; entries = omega arith; fields = omega arith; links = omega arith; slots = omega arith }
-
 fast-least : (c : Option Cause) (need : Need) → IsAtMost (if_fast c need) need
 fast-least None need = same-least need
 fast-least (Some c) need = none-least need
@@ -109,6 +96,8 @@ within-both s j a b c d x y = record {
   fields = omega (arith, x.fields, y.fields);
   links = omega (arith, x.links, y.links);
   slots = omega (arith, x.slots, y.slots);
+  cells = refl;
+  rises = record { maps = omega arith; entries = omega arith; fields = omega arith; links = omega arith; slots = omega arith };
 }
 
 -- Modes

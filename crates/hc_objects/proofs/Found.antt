@@ -15,6 +15,7 @@ use Rattle.hc_objects.specs.State.{AreRoots}
 use Rattle.hc_objects.specs.Changes.{Touches}
 use Rattle.hc_objects.specs.Linking.{GrowsTree, IsWalked, HasMapFor, shared_need}
 use Rattle.hc_objects.specs.Modes.{IsWithin, walk_need}
+use Rattle.hc_objects.proofs.Needing.{no-less-need, no-less-on}
 use Rattle.hc_objects.proofs.Rooted.{IsRooted, rooted-writes, rooted-roots}
 use Rattle.hc_objects.proofs.Sound.{roots-stay}
 use Rattle.hc_objects.proofs.Staying.{IsLater, later}
@@ -72,6 +73,8 @@ module _ (maps : MapsAreKept) (details : DetailsRise) (v w : View) (null then_nu
           fields = omega (arith, from.fields);
           links = omega (arith, from.links);
           slots = omega (arith, from.slots);
+          cells = from.cells;
+          rises = no-less-on v.used (with_need (root_need (root_of v.trail proto null)) v.used) x.used (no-less-need (root_need (root_of v.trail proto null)) v.used) from.rises;
         };
         objects = walked.objects ∙ ap (λ (u : Shape). u.objects) it.used;
         slots = walked.slots ∙ ap (λ (u : Shape). u.slots) it.used ∙ slots-of (root_of v.trail proto null) v.used;

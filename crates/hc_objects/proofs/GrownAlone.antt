@@ -194,6 +194,14 @@ module _ (maps : MapsAreKept) (details : DetailsRise) (trees : TreesStay) (unuse
             fields = omega (arith, fields_then, fields_here);
             links = omega (arith, links_then, links_here);
             slots = omega (arith, slots_here, slots-then);
+            cells = ap (λ (s : Shape). s.cells) fitted.used ∙ ap (λ (s : Shape). s.cells) used-then;
+            rises = record {
+              maps = omega (arith, maps_then, maps_here);
+              entries = omega (arith, entries_then, entries_here);
+              fields = omega (arith, fields_then, fields_here);
+              links = omega (arith, links_then, links_here);
+              slots = omega (arith, fitted.slots, slots-then);
+            };
           }
 
       pub grown-alone : IsGrownAlone v (with_write x (ObjectMap o (Some v.used.maps))) o m n p

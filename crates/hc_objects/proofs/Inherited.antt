@@ -24,7 +24,8 @@ use Rattle.hc_objects.specs.Meaning.{Dictionary, cause_in, kept_of, fast_props, 
 use Rattle.hc_objects.specs.Modes.{Becomes, IsLinked, IsNamed, IsWithin, Names, ProtosAfter, StaysFast, both, if_fast, if_named, link_need, named_need, need_by, proto_need, walk_need}
 use Rattle.hc_objects.specs.State.{ObjectsState, IsObjects}
 use Rattle.hc_objects.proofs.Adding.{map-is}
-use Rattle.hc_objects.proofs.Composing.{but-on, cause-but, no-cause, steps-on, within-same}
+use Rattle.hc_objects.proofs.Composing.{but-on, cause-but, no-cause, steps-on}
+use Rattle.hc_objects.proofs.Needing.{no-less-need, no-less-on, within-same}
 use Rattle.hc_objects.proofs.Listed.{length-listed}
 use Rattle.hc_objects.proofs.Writing.{has-map, props-are}
 
@@ -55,6 +56,8 @@ within-both k n a b c x y = record {
   fields = omega (arith, x.fields, y.fields);
   links = omega (arith, x.links, y.links);
   slots = omega (arith, x.slots, y.slots);
+  cells = y.cells ∙ x.cells;
+  rises = no-less-on a b c x.rises y.rises;
 }
 
 space-to : (v : View) (used : Shape) (k n : Need) → used ≡ with_need k v.used → HasSpace (record v { used = used }) n → HasSpace v (both k n)
@@ -164,12 +167,12 @@ module _ {P : Type 0} where
   named-mode a b c (Some p) same h = subst (λ (x : Option Cause). Becomes (cause_in a.kept p) None (HasSpace a.heap.view (proto_need a.heap.view.trail p)) x) (sym (same p refl)) h
 
   named-within : (a b : ObjectsState P) (proto : Option ℕ) → IsWithin (if_named proto (proto_need a.heap.view.trail)) a.heap.view.used (with_need (named_need a proto b) a.heap.view.used)
-  named-within a b None = record { maps = omega arith; entries = omega arith; fields = omega arith; links = omega arith; slots = omega arith }
+  named-within a b None = record { maps = omega arith; entries = omega arith; fields = omega arith; links = omega arith; slots = omega arith; cells = refl; rises = no-less-need no_need a.heap.view.used }
   named-within a b (Some p) = by (cause_in b.kept p)
     where
       by : (now : Option Cause) → IsWithin (proto_need a.heap.view.trail p) a.heap.view.used (with_need (if_fast now (proto_need a.heap.view.trail p)) a.heap.view.used)
-      by None = record { maps = omega arith; entries = omega arith; fields = omega arith; links = omega arith; slots = omega arith }
-      by (Some c) = record { maps = omega arith; entries = omega arith; fields = omega arith; links = omega arith; slots = omega arith }
+      by None = record { maps = omega arith; entries = omega arith; fields = omega arith; links = omega arith; slots = omega arith; cells = refl; rises = no-less-need (proto_need a.heap.view.trail p) a.heap.view.used }
+      by (Some c) = record { maps = omega arith; entries = omega arith; fields = omega arith; links = omega arith; slots = omega arith; cells = refl; rises = no-less-need no_need a.heap.view.used }
 
   module _ (went : P → List Access → List Access → P → Type 0) where
     -- a fast object still needs the same for another prototype

@@ -55,3 +55,4 @@ pub mod Relinked
 pub mod Linked
 pub mod Unstable
 pub mod Inherited
+pub mod Spending

@@ -14,7 +14,7 @@ use Rattle.hc_tree.specs.Needs.{HasSpace, no_need, with_need}
 use Rattle.hc_tree.specs.Tree.{tagged_field}
 use Rattle.hc_objects.specs.Changes.{key_of}
 use Rattle.hc_objects.specs.Filling.{MayGrowBy, slots_need, with_growth}
-use Rattle.hc_objects.specs.Modes.{IsWithin, add_need, both, grown_need, need_by}
+use Rattle.hc_objects.specs.Modes.{IsNoLess, IsWithin, add_need, both, grown_need, need_by}
 
 -- a child takes no slots
 slots-none : (l : Option ℕ) (n : ℕ) → (child_need l n).slots ≡ 0
@@ -71,7 +71,42 @@ module _ (v : View) (o m : ℕ) (g : GateWord) (p : Prop) (has : map_in v.trail 
     fields = omega arith;
     links = omega arith;
     slots = omega (arith, none);
+    cells = refl;
+    rises = record { maps = omega arith; entries = omega arith; fields = omega arith; links = omega arith; slots = omega arith };
   }))
+
+-- A need and another
+
+-- a need that is at most another
+pub record IsAtMost (a b : Need) : Type 0 where
+  pub maps : a.maps ≤ b.maps
+  pub entries : a.entries ≤ b.entries
+  pub fields : a.fields ≤ b.fields
+  pub links : a.links ≤ b.links
+  pub slots : a.slots ≤ b.slots
+
+pub none-least : (b : Need) → IsAtMost no_need b
+none-least b = record { maps = omega arith; entries = omega arith; fields = omega arith; links = omega arith; slots = omega arith }
+
+pub same-least : (b : Need) → IsAtMost b b
+same-least b = record { maps = omega arith; entries = omega arith; fields = omega arith; links = omega arith; slots = omega arith }
+
+-- What was handed out
+
+pub no-less-none : (s : Shape) → IsNoLess s s
+no-less-none s = record { maps = omega arith; entries = omega arith; fields = omega arith; links = omega arith; slots = omega arith }
+
+pub no-less-need : (k : Need) (s : Shape) → IsNoLess s (with_need k s)
+no-less-need k s = record { maps = omega arith; entries = omega arith; fields = omega arith; links = omega arith; slots = omega arith }
+
+pub no-less-on : (a b c : Shape) → IsNoLess a b → IsNoLess b c → IsNoLess a c
+no-less-on a b c x y = record {
+  maps = omega (arith, x.maps, y.maps);
+  entries = omega (arith, x.entries, y.entries);
+  fields = omega (arith, x.fields, y.fields);
+  links = omega (arith, x.links, y.links);
+  slots = omega (arith, x.slots, y.slots);
+}
 
 -- nothing was handed out
 pub within-none : (need : Need) (used : Shape) → IsWithin need used used
@@ -81,6 +116,8 @@ within-none need used = record {
   fields = omega arith;
   links = omega arith;
   slots = omega arith;
+  cells = refl;
+  rises = no-less-none used;
 }
 
 pub within-same : (need : Need) (old new : Shape) → new ≡ old → IsWithin need old new

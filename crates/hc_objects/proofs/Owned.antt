@@ -26,10 +26,12 @@ use Rattle.hc_tree.specs.Needs.{with_need}
 use Rattle.hc_tree.specs.Tree.{IsTree, gate_with}
 use Rattle.hc_table.specs.World.{Object}
 use Rattle.hc_objects.specs.Becoming.{IsOwned, with_proto}
-use Rattle.hc_objects.specs.Changes.{Touches, OpensNoRoot, Stepped}
+use Rattle.hc_objects.specs.Changes.{Touches, OpensNoRoot, SlotsStay, Stepped}
 use Rattle.hc_objects.specs.Listed.{listed}
 use Rattle.hc_objects.specs.Meaning.{Dictionary, fast_object, fast_props, is_extensible, kept_of, object_shown, prop_in, prop_of, proto_of, slot_word, world}
+use Rattle.hc_objects.specs.Privates.{IsAlike}
 use Rattle.hc_objects.specs.State.{HasMap, IsFast, IsIn, IsObjects, AreHandedOut}
+use Rattle.hc_objects.proofs.Alike.{alike-copy, alike-holds, fast-alike}
 use Rattle.hc_objects.proofs.Listed.{listed-same}
 use Rattle.hc_objects.proofs.Owning.{nobody-has, open-used}
 use Rattle.hc_objects.proofs.Prototypes.{became-from, became-proto, proto-touches, same-sound, same-world}
@@ -95,66 +97,27 @@ word-same old new None k same = refl
 pub words-same : (old new : Trail) (o k : ℕ) → store_in new o ≡ store_in old o → ((s : ℕ) → slot_in new s ≡ slot_in old s) → slot_word new o k ≡ slot_word old o k
 words-same old new o k store slots = ap (λ (w : StoreWord). word_from new w.first k) store ∙ word-same old new (store_in old o).first k slots
 
--- The entries of a private copy with new fields
-
--- a word holds what an entry with this key and detail asks
-abbrev Holds : Option Key → Option Detail → ℕ → Type 0
-Holds key d w = IsSomeAnd key (λ x. IsSomeAnd d (λ e. IsFormOf x.kind e.rep w))
-
-holds-detail : (t : Trail) (key : Option Key) (f : Option ℕ) (w : ℕ) → IsSomeAnd key (λ x. IsSomeAnd f (λ y. IsSomeAnd (detail_in t y) (λ e. IsFormOf x.kind e.rep w))) → Holds key (detail_of t f) w
-holds-detail t (Some key) (Some f) w h = h
-holds-detail t (Some key) None w h = absurd h
-holds-detail t None f w h = absurd h
-
-holds-field : (t : Trail) (key : Option Key) (f : ℕ) (w : ℕ) → Holds key (detail_in t f) w → IsSomeAnd key (λ x. IsSomeAnd (Some f) (λ y. IsSomeAnd (detail_in t y) (λ e. IsFormOf x.kind e.rep w)))
-holds-field t (Some key) f w h = h
-holds-field t None f w h = absurd h
-
-module _ (t : Trail) (c m n first : ℕ) (copy : HasNewFields t c m n first) (o k : ℕ) (lt : k < n) where
-  copy-detail : detail_at t c k ≡ detail_at t m k
-  copy-detail = ap (detail_of t) (copy.entries.fields k lt) ∙ (copy.made k lt).detail
-
-  pub copy-prop : prop_in t o c k ≡ prop_in t o m k
-  copy-prop =
-      ap (λ (x : Option Key). prop_of x (detail_at t c k) (slot_word t o k)) (copy.entries.keys k lt)
-      ∙ ap (λ (d : Option Detail). prop_of (key_at t m k) d (slot_word t o k)) copy-detail
-
-  pub copy-holds : HoldsEntry t o m k → HoldsEntry t o c k
-  copy-holds h =
-      let there : Holds (key_at t m k) (detail_at t m k) (slot_word t o k) = holds-detail t (key_at t m k) (field_at t m k) (slot_word t o k) h in
-      let keys : Holds (key_at t c k) (detail_at t m k) (slot_word t o k) = subst (λ (x : Option Key). Holds x (detail_at t m k) (slot_word t o k)) (sym (copy.entries.keys k lt)) there in
-      let here : Holds (key_at t c k) (detail_in t (first + k)) (slot_word t o k) = subst (λ (d : Option Detail). Holds (key_at t c k) d (slot_word t o k)) (sym (copy.made k lt).detail) keys in
-      subst (λ (f : Option ℕ). IsSomeAnd (key_at t c k) (λ x. IsSomeAnd f (λ y. IsSomeAnd (detail_in t y) (λ e. IsFormOf x.kind e.rep (slot_word t o k))))) (sym (copy.entries.fields k lt))
-      (holds-field t (key_at t c k) (first + k) (slot_word t o k) here)
-
 -- an object with these words may have the copy, where it had the map
 module _ (old new : Trail) (after : IsLater old new) (o m c first : ℕ) (p : Option ℕ) (g : GateWord) (fast : IsFast old o m g) (copy : IsPrivateCopy true None p new c m (count_of old m) first)
     (store : store_in new o ≡ store_in old o) (slots : (s : ℕ) → slot_in new s ≡ slot_in old s) where
   count : count_of old m ≡ g.entries
   count = ap entries_in fast.is_open
 
+  alike : IsAlike new c m g.entries p
+  alike = subst (λ (n : ℕ). IsAlike new c m n p) count (alike-copy true p new c m (count_of old m) first copy)
+
+  words : SlotsStay old new o g.entries
+  words k lt = words-same old new o k store slots
+
   pub copy-fits : HoldsEntries new o c (gate_with (count_of old m) true)
-  copy-fits = record {
-    capacity = subst (λ (w : StoreWord). count_of old m ≤ w.capacity) (sym store) (omega (arith, count, fast.holds.capacity));
-    slots = λ k lt.
-        let before : k < g.entries = omega (arith, lt, count) in
-        copy-holds new c m (count_of old m) first copy.entries o k lt
-        (holds-still old new after o m k g fast.is_open before (words-same old new o k store slots) (fast.holds.slots k before));
-  }
+  copy-fits = subst (λ (n : ℕ). HoldsEntries new o c (gate_with n true)) (sym count)
+      (alike-holds old new after o m g fast c p alike (subst (λ (w : StoreWord). g.entries ≤ w.capacity) (sym store) fast.holds.capacity) words)
 
   -- and it has the value that it had
   pub copy-object : g.is_locked ≡ false → prototype_in old m ≡ Some p → fast_object new o c ≡ fast_object old o m
   copy-object unlocked prototype =
-      let extensible : is_extensible (gate_in new c) ≡ is_extensible (gate_in old m) = ap is_extensible copy.gate ∙ ap not (sym unlocked) ∙ sym (ap is_extensible fast.is_open) in
-      let props : fast_props new o c ≡ fast_props old o m =
-      ap (listed (prop_in new o c)) (ap entries_in copy.gate)
-      ∙ listed-same (prop_in old o m) (prop_in new o c) (count_of old m)
-      (λ k lt.
-      copy-prop new c m (count_of old m) first copy.entries o k lt
-      ∙ prop-stays old new after o m k g fast.is_open (omega (arith, lt, count)) (words-same old new o k store slots)) in
-      ap (λ (q : Option (Option ℕ)). let x : Object = record { proto = proto_of q; extensible = is_extensible (gate_in new c); props = fast_props new o c } in x) (copy.prototype ∙ sym prototype)
-      ∙ ap (λ (b : Bool). let x : Object = record { proto = proto_of (prototype_in old m); extensible = b; props = fast_props new o c } in x) extensible
-      ∙ ap (λ (ps : List Prop). let x : Object = record { proto = proto_of (prototype_in old m); extensible = is_extensible (gate_in old m); props = ps } in x) props
+      fast-alike old new after o m g fast c p alike unlocked words
+      ∙ ap (λ (q : Option (Option ℕ)). let x : Object = record { proto = proto_of q; extensible = is_extensible (gate_in old m); props = fast_props old o m } in x) (sym prototype)
 
 -- The writes
 

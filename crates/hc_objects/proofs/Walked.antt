@@ -23,6 +23,7 @@ use Rattle.hc_objects.specs.Changes.{OpensNoRoot}
 use Rattle.hc_objects.specs.Linking.{GrowsTree, IsWalked}
 use Rattle.hc_objects.specs.Modes.{IsWithin, arrays_upto, walk_need}
 use Rattle.hc_objects.proofs.Childed.{IsChilded}
+use Rattle.hc_objects.proofs.Needing.{no-less-need, no-less-none, no-less-on}
 use Rattle.hc_objects.proofs.Rising.{some-of, some-and}
 use Rattle.hc_objects.proofs.Sound.{same-or, some-is}
 use Rattle.hc_objects.proofs.Staying.{IsLater, later, proto-stays}
@@ -101,8 +102,8 @@ module _ (gates : GatesAreOpen) (forms : FormsAreKept) (v : View) (at m k : ℕ)
       ((tree.maps m next.gate next.is_open).distinct j k lt next.within it.0 key it.1 next.is_key)
 
 within-child : (l : Option ℕ) (k : ℕ) (old : Shape) → IsWithin (child_need None k) old (with_need (child_need l k) old)
-within-child (Some c) k old = record { maps = omega arith; entries = omega arith; fields = omega arith; links = omega arith; slots = omega arith }
-within-child None k old = record { maps = omega arith; entries = omega arith; fields = omega arith; links = omega arith; slots = omega arith }
+within-child (Some c) k old = record { maps = omega arith; entries = omega arith; fields = omega arith; links = omega arith; slots = omega arith; cells = refl; rises = no-less-need (child_need (Some c) k) old }
+within-child None k old = record { maps = omega arith; entries = omega arith; fields = omega arith; links = omega arith; slots = omega arith; cells = refl; rises = no-less-need (child_need None k) old }
 
 slots-child : (l : Option ℕ) (k : ℕ) (old : Shape) → (with_need (child_need l k) old).slots ≡ old.slots
 slots-child (Some c) k old = omega arith
@@ -160,7 +161,7 @@ pub walked-none : (v : View) (root m : ℕ) → IsHeap v → IsTree v.trail → 
 walked-none v root m heap tree gate = record {
   writes = adds-none v.trail;
   opens = λ k g none is shared parent. let n : None ≡ Some g = sym none ∙ is in let f : ⊥ = cc in f;
-  needs = record { maps = omega arith; entries = omega arith; fields = omega arith; links = omega arith; slots = omega arith };
+  needs = record { maps = omega arith; entries = omega arith; fields = omega arith; links = omega arith; slots = omega arith; cells = refl; rises = no-less-none v.used };
   objects = refl;
   slots = refl;
   shape = refl;
@@ -174,7 +175,7 @@ walked-none v root m heap tree gate = record {
 pub arrays-next : (k : ℕ) → arrays_upto (k + 1) ≡ arrays_upto k + cap_of (k + 1)
 arrays-next k = subst (λ (n : ℕ). arrays_upto n ≡ arrays_upto k + cap_of n) (sym (add-one k)) refl
 
-arrays-rise : (k n : ℕ) → k ≤ n → arrays_upto k ≤ arrays_upto n
+pub arrays-rise : (k n : ℕ) → k ≤ n → arrays_upto k ≤ arrays_upto n
 arrays-rise k zero le = let is : k ≡ 0 = omega (arith, le) in subst (λ (x : ℕ). arrays_upto x ≤ arrays_upto 0) (sym is) (omega arith)
 arrays-rise k (suc n) le = same-or k (suc n) (arrays_upto k ≤ arrays_upto (suc n))
     (λ is. subst (λ (x : ℕ). arrays_upto k ≤ arrays_upto x) is (omega arith))
@@ -215,6 +216,8 @@ module _ (maps : MapsAreKept) (details : DetailsRise) (a b : View) (root m at k 
           fields = omega (arith, walked.needs.fields, step.needs.fields);
           links = omega (arith, walked.needs.links, step.needs.links);
           slots = omega (arith, walked.needs.slots, step.needs.slots);
+          cells = step.needs.cells ∙ walked.needs.cells;
+          rises = no-less-on a.used b.used c.used walked.needs.rises step.needs.rises;
         };
         objects = step.objects ∙ walked.objects;
         slots = step.slots ∙ walked.slots;

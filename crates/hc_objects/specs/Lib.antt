@@ -12,3 +12,4 @@ pub mod Becoming
 pub mod Inheriting
 pub mod Laws
 pub mod Creating
+pub mod Spent

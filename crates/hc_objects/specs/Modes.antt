@@ -85,13 +85,23 @@ need_of a (Added o p) = add_need a.heap.view.trail o p
 need_of a (Linked o proto) = both (if_named proto (proto_need a.heap.view.trail)) (link_need a.heap.view.trail o proto a.of_null)
 need_of a _ = no_need
 
--- no more items were handed out than were needed
+-- no item was taken back
+pub record IsNoLess (old new : Shape) : Type 0 where
+  pub maps : old.maps ≤ new.maps
+  pub entries : old.entries ≤ new.entries
+  pub fields : old.fields ≤ new.fields
+  pub links : old.links ≤ new.links
+  pub slots : old.slots ≤ new.slots
+
+-- no more items were handed out than were needed, no cell was, and none was taken back
 pub record IsWithin (need : Need) (old new : Shape) : Type 0 where
   pub maps : new.maps ≤ old.maps + need.maps
   pub entries : new.entries ≤ old.entries + need.entries
   pub fields : new.fields ≤ old.fields + need.fields
   pub links : new.links ≤ old.links + need.links
   pub slots : new.slots ≤ old.slots + need.slots
+  pub cells : new.cells ≡ old.cells
+  pub rises : IsNoLess old new
 
 -- Modes
 

@@ -122,7 +122,6 @@ impl<P: Pace> Objects<P> {
         ensures null { self.new.of_null ≡ self.old.of_null }
         ensures others { KeptBut o self.old.kept self.new.kept }
         ensures used { self.new.heap.view.used ≡ self.old.heap.view.used }
-        ensures protos { (p : ℕ) → (root_in self.new.heap.view.trail p).is_proto ≡ (root_in self.old.heap.view.trail p).is_proto }
         ensures roots { (q : ℕ) → root_in self.new.heap.view.trail q ≡ root_in self.old.heap.view.trail q }
         ensures maps { (q : ℕ) → q ≢ o → map_in self.new.heap.view.trail q ≡ map_in self.old.heap.view.trail q }
     {

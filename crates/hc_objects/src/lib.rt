@@ -10,6 +10,7 @@ mod fast;
 mod growing;
 mod held;
 mod inheriting;
+mod laws;
 mod leaving;
 mod objects;
 mod privates;
@@ -26,6 +27,7 @@ mod walking;
 mod writes;
 
 pub use dictionary::Dictionary;
+pub use laws::operations_spend_little;
 pub use objects::Objects;
 
 #[cfg(test)]

@@ -58,19 +58,19 @@ ends_memory start place before left taken ahead_now now so_far = (
 )
 
 -- a write failed in the midst of a reply
-pub ends_write : (start : Place) (before left taken : Option (List ℕ)) (at after : Position) (state : State) (ahead_then ahead_now now later : Option (List ℕ)) (command : Command) → Progress start before taken (record { at = at; state = state }) ahead_then now → TakesCommand at ahead_then command after ahead_now → AnswersPartly state after.names command now later → WritesReplay start before left taken WriteFault later
-ends_write start before left taken at after state ahead_then ahead_now now later command so_far took answered =
+pub ends_write : (start : Place) (before left taken : Option (List ℕ)) (at after : Position) (state new : State) (ahead_then ahead_now now later : Option (List ℕ)) (command : Command) → Progress start before taken (record { at = at; state = state }) ahead_then now → TakesCommand at ahead_then command after ahead_now → AnswersPartly state after.names command new now later → WritesReplay start before left taken WriteFault later
+ends_write start before left taken at after state new ahead_then ahead_now now later command so_far took answered =
     let lines = so_far.lines ++ (took.passed ++ took.line ∷ []) in
     let text = so_far.text ++ reply_line after.names answered.reply in (
       text,
       (
         text,
-        record { at = after; state = answered.new },
+        record { at = after; state = new },
         inl (
           record {
             lines = lines;
             there = taken_in_front before ahead_now lines (takes_both before ahead_then ahead_now so_far.lines (took.passed ++ took.line ∷ []) so_far.took took.taken);
-            answers = answers_both start (record { at = at; state = state }) _ so_far.lines _ so_far.text _ so_far.answers (command_answer at state answered.new ahead_then ahead_now command after answered.reply took answered.does);
+            answers = answers_both start (record { at = at; state = state }) _ so_far.lines _ so_far.text _ so_far.answers (command_answer at state new ahead_then ahead_now command after answered.reply took answered.does answered.stands);
           },
           inl refl,
         ),

@@ -1,5 +1,6 @@
 pub mod Causes
 pub mod Endings
+pub mod Finished
 pub mod FirstRefused
 pub mod NamedActs
 pub mod NamedChanges
@@ -9,5 +10,6 @@ pub mod NamedWrites
 pub mod Obeys
 pub mod Pieces
 pub mod Runs
+pub mod Spends
 pub mod Takes
 pub mod WithoutPace

@@ -6,7 +6,7 @@ use Rattle.hc_script.specs.Outside.{AppendsBytes}
 use Rattle.hc_script.specs.Reading.{Position, ArePassed, MeetsRefused, TakesCommand}
 use Rattle.hc_script.specs.declared.command.Command.{Command}
 use Rattle.hc_script.specs.declared.fault.What.{What}
-use Rattle.hc_session.specs.State.{State, Does}
+use Rattle.hc_session.specs.State.{State, Does, Stands}
 use Rattle.hc_session.specs.Text.{reply_line}
 use Rattle.hc_session.specs.Answer.{AnswersCommand}
 use Rattle.hc_session.specs.Output.{Place, AppendsPrefix, Turns, Answers}
@@ -95,11 +95,11 @@ pub one_answer : (a b : Place) (line text : List ℕ) → Turns a line text b �
 one_answer a b line text turn = (b, text, [], turn, (refl, refl), sym (append-nil text))
 
 -- a command behind lines that ask for nothing
-pub command_answer : (at : Position) (state new : State) (before now : Option (List ℕ)) (command : Command) (after : Position) (reply : Reply) → (took : TakesCommand at before command after now) → Does state command reply new → Answers (record { at = at; state = state }) (took.passed ++ took.line ∷ []) (reply_line after.names reply) (record { at = after; state = new })
-command_answer at state new before now command after reply took does =
+pub command_answer : (at : Position) (state new : State) (before now : Option (List ℕ)) (command : Command) (after : Position) (reply : Reply) → (took : TakesCommand at before command after now) → Does state command reply new → Stands new → Answers (record { at = at; state = state }) (took.passed ++ took.line ∷ []) (reply_line after.names reply) (record { at = after; state = new })
+command_answer at state new before now command after reply took does stands =
     answers_both _ (record { at = took.there; state = state }) _ took.passed (took.line ∷ []) [] (reply_line after.names reply)
     (passed_answer at took.there state took.passed took.are_passed)
-    (one_answer _ _ took.line (reply_line after.names reply) (inr (record { command = command; reply = reply; asked = took.asked; does = does; text_is = refl })))
+    (one_answer _ _ took.line (reply_line after.names reply) (inr (record { command = command; reply = reply; asked = took.asked; does = does; stands = stands; text_is = refl })))
 
 -- nothing was done yet
 pub no_progress : (start : Place) (before taken : Option (List ℕ)) → Progress start before taken start before taken
@@ -111,6 +111,6 @@ progress_on start before taken at after state new ahead ahead_now now later comm
   lines = so_far.lines ++ (took.passed ++ took.line ∷ []);
   text = so_far.text ++ reply_line after.names answered.reply;
   took = takes_both before ahead ahead_now so_far.lines (took.passed ++ took.line ∷ []) so_far.took took.taken;
-  answers = answers_both start (record { at = at; state = state }) _ so_far.lines _ so_far.text _ so_far.answers (command_answer at state new ahead ahead_now command after answered.reply took answered.does);
+  answers = answers_both start (record { at = at; state = state }) _ so_far.lines _ so_far.text _ so_far.answers (command_answer at state new ahead ahead_now command after answered.reply took answered.does answered.stands);
   written = appends_both taken now later so_far.text (reply_line after.names answered.reply) so_far.written answered.written;
 }

@@ -6,7 +6,7 @@ use Rattle.hc_script.specs.Outside.{AppendsBytes, IsAtEnd}
 use Rattle.hc_script.specs.Reading.{Position, IsPassed, IsAsked, MeetsRefused}
 use Rattle.hc_script.specs.declared.command.Command.{Command}
 use Rattle.hc_script.specs.declared.fault.What.{What}
-use Rattle.hc_session.specs.State.{State, Does}
+use Rattle.hc_session.specs.State.{State, Does, Stands}
 use Rattle.hc_session.specs.Text.{reply_line}
 
 -- a front of a text
@@ -34,6 +34,7 @@ pub record AnswersLine (old : Place) (line text : List ℕ) (new : Place) : Type
   pub reply : Reply
   pub asked : IsAsked old.at line command new.at
   pub does : Does old.state command reply new.state
+  pub stands : Stands new.state
   pub text_is : text ≡ reply_line new.at.names reply
 
 -- one line goes from a place to the next, with this text

@@ -1,5 +1,5 @@
 -- What a replay has written, by the status with which it ends.
-use Rattle.std.specs.Prelude.{◌≡◌, ◌⊎◌, ℕ, ◌+◌, List, [], ◌∷◌, ◌++◌, Option, codes}
+use Rattle.std.specs.Prelude.{◌≡◌, ◌⊎◌, ℕ, ◌+◌, List, [], ◌∷◌, ◌++◌, ◌≤◌, length, Option, IfSome, codes}
 use Rattle.hc_script.specs.Outside.{AppendsBytes, Rose}
 use Rattle.hc_script.specs.Lines.{lines_of}
 use Rattle.hc_script.specs.Reading.{Position, IsPassed, IsAsked, IsRefused, the_start}
@@ -7,6 +7,7 @@ use Rattle.hc_script.specs.declared.command.Command.{Command}
 use Rattle.hc_script.specs.declared.fault.What.{What}
 use Rattle.hc_script.specs.declared.fault.Status.{Status}
 use Rattle.hc_script.specs.declared.fault.Status.TheVariants.{Done, BadWords, BadScript, ReadFault, WriteFault, Memory}
+use Rattle.hc_objects.specs.Spent.{IsSpent}
 use Rattle.hc_session.specs.State.{State}
 use Rattle.hc_session.specs.Fault.{refusal_line, read_line, usage_line}
 use Rattle.hc_session.specs.Output.{Place, AnswersAll, AnswersUntilRefused, AnswersSome, AnswersUntilFault, AppendsPrefix}
@@ -76,6 +77,11 @@ AreAllAccepted bytes = (end : Position) × AreAccepted the_start (lines_of bytes
 abbrev pub IsCutShort : Status → ℕ → ℕ → ℕ → ℕ → Type 0
 IsCutShort status reads_before reads_after writes_before writes_after =
     (status ≡ Memory) ⊎ (Rose reads_before reads_after ⊎ Rose writes_before writes_after)
+
+-- what the lines of the source, of which each asks for one operation at most, hand out, and which objects they leave slow for
+-- want of room
+abbrev pub SpendsLines : Option (List ℕ) → State → State → Type 0
+SpendsLines source old new = (n : ℕ) × IfSome source (λ bytes. n ≤ length (lines_of bytes)) × IsSpent n old.objects new.objects
 
 -- the last line was written, or a front of it
 abbrev pub EndsWith : Option (List ℕ) → List ℕ → Status → Status → Option (List ℕ) → Type 0

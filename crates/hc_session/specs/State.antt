@@ -21,7 +21,7 @@ use Rattle.hc_ops.specs.SetDid.{set_did}
 use Rattle.hc_objects.specs.Came.{Came, world_of}
 use Rattle.hc_objects.specs.Meaning.{cause_in}
 use Rattle.hc_objects.specs.Modes.{AreAlike, mode_of}
-use Rattle.hc_objects.specs.State.{ObjectsState}
+use Rattle.hc_objects.specs.State.{ObjectsState, IsObjects}
 use Rattle.hc_script.specs.Numbers.{IsCommandBelow}
 use Rattle.hc_script.specs.Verbs.{IsBuilt, is_built, verb_of_command}
 use Rattle.hc_script.specs.declared.command.Command.{Command}
@@ -45,6 +45,10 @@ without_pace o = record { heap = record { view = o.heap.view; desk = o.heap.desk
 -- the state of objects
 abbrev pub state_of : {P : Type 0} → ObjectsState P → State
 state_of o = record { world = world_of o; limit = o.heap.view.shape.objects; objects = without_pace o }
+
+-- what always holds of objects holds of a state's: their words are lawful, and fast and slow ones are as these say
+abbrev pub Stands : State → Type 0
+Stands state = IsObjects state.objects.heap.view state.objects.kept state.objects.of_null
 
 -- the property tables of a state
 abbrev pub tables_of : State → Tables

@@ -35,7 +35,7 @@ pub fn answer<K: Sink>(
         (K.taken sink.old) (K.taken sink.new)) }
     ensures world { OnOk result (IsNamedWorld (length names.now) session.new.state.world) }
     ensures memory { IsErrOf result Halt.Memory → K.taken sink.new ≡ K.taken sink.old }
-    ensures write { IsErrOf result Halt.Write → AnswersPartly session.old.state names.now command.now
+    ensures write { IsErrOf result Halt.Write → AnswersPartly session.old.state names.now command.now session.new.state
         (K.taken sink.old) (K.taken sink.new) }
     ensures cause { IsErrOf result Halt.Write → Rose (K.faults sink.old) (K.faults sink.new) }
     ensures grows { K.faults sink.old ≤ K.faults sink.new }

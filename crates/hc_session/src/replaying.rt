@@ -3,12 +3,13 @@ ghost use Rattle.hc_script.specs.Lines.{ahead};
 ghost use Rattle.hc_script.specs.Outside.{Rose};
 ghost use Rattle.hc_script.specs.Reader.{the_new_reader};
 ghost use Rattle.hc_session.specs.Progress.{EndsByFault};
-ghost use Rattle.hc_session.specs.Replay.{AskForReplay, WritesReplay, WritesUsage, IsFirstRefused, AreAllAccepted, IsCutShort, EndsWith, the_first_place};
+ghost use Rattle.hc_session.specs.Replay.{AskForReplay, WritesReplay, WritesUsage, IsFirstRefused, AreAllAccepted, IsCutShort, SpendsLines, EndsWith, the_first_place};
 
 use crate::answer::{Halt, answer};
 use crate::report::render_refusal;
 use crate::write::write_piece;
 use crate::{Scripted, Session};
+use hc_objects::operations_spend_little;
 use hc_script::laws::{commands_are_named, lines_have_one_meaning};
 use hc_script::{ScriptFault, ScriptReader, Sink, Source, Status, What};
 
@@ -36,6 +37,11 @@ pub fn replay<S: Source, K: Sink>(
         AreAllAccepted bytes → (result ≡ Status.Done)
         ⊎ IsCutShort result (S.faults source.old) (S.faults source.new) (K.faults sink.old) (K.faults sink.new)) }
 
+    // What the lines handed out: at most so much a line, and an object is slow for want of room only where some region is
+    // nearly full at the end.
+    ensures spent { AskForReplay (map string_bytes words.now) → (result ≡ Status.Memory)
+        ⊎ SpendsLines (S.left source.old) session.old.state session.new.state }
+
     ensures read { result ≡ Status.ReadFault → Rose (S.faults source.old) (S.faults source.new) }
     ensures write { result ≡ Status.WriteFault → Rose (K.faults sink.old) (K.faults sink.new) }
 {
@@ -54,6 +60,8 @@ fn replay_words<S: Source, K: Sink>(
     ensures written { AskForReplay (map string_bytes words.now) → WritesReplay (the_first_place session.old.state)
         (S.left source.old) (S.left source.new) (K.taken sink.old) result (K.taken sink.new) }
     ensures usage { (AskForReplay (map string_bytes words.now) → ⊥) → WritesUsage (K.taken sink.old) result (K.taken sink.new) }
+    ensures spent { AskForReplay (map string_bytes words.now) → (result ≡ Status.Memory)
+        ⊎ SpendsLines (S.left source.old) session.old.state session.new.state }
     ensures read { result ≡ Status.ReadFault → Rose (S.faults source.old) (S.faults source.new) }
     ensures write { result ≡ Status.WriteFault → Rose (K.faults sink.old) (K.faults sink.new) }
 {
@@ -108,10 +116,13 @@ fn replay_lines<S: Source, K: Sink>(
     requires world { session.old.state.world ≡ [] }
     ensures written { WritesReplay (the_first_place session.old.state)
         (S.left source.old) (S.left source.new) (K.taken sink.old) result (K.taken sink.new) }
+    ensures spent { (result ≡ Status.Memory) ⊎ SpendsLines (S.left source.old) session.old.state session.new.state }
     ensures read { result ≡ Status.ReadFault → Rose (S.faults source.old) (S.faults source.new) }
     ensures write { result ≡ Status.WriteFault → Rose (K.faults sink.old) (K.faults sink.new) }
 {
     commands_are_named();
+    operations_spend_little();
+    session.stands();
     'commands: loop {
         match reader.next(source) {
             Ok(Some(command)) => match answer(session, reader.names(), &command, text, sink) {

@@ -5,7 +5,7 @@ ghost use Rattle.hc_table.specs.Changes.{Moved};
 ghost use Rattle.hc_objects.specs.Came.{Came, IsStill, world_of};
 ghost use Rattle.hc_script.specs.Verbs.{IsBuilt};
 ghost use Rattle.hc_script.specs.declared.command.Command.TheVariants.{Shape as ShapeCommand, Same as SameCommand};
-ghost use Rattle.hc_session.specs.State.{HasNumbers, Does, IsReplyTo, state_of, tables_of, without_pace};
+ghost use Rattle.hc_session.specs.State.{HasNumbers, Does, IsReplyTo, Stands, state_of, tables_of, without_pace};
 
 use crate::perform::perform;
 use hc_board::Writer;
@@ -89,10 +89,20 @@ impl<P: Pace> Session<P> {
         ensures done { IfOk result (λ reply. Does self.old.state command.now reply self.new.state) }
         ensures err { OnErr result (tables_of self.new.state ≡ tables_of self.old.state) }
         ensures moved { OnErr result (Came (λ _ _ _ _. ⊤) self.old.state.objects Moved self.new.state.objects) }
+        ensures stands { Stands self.new.state }
         ensures fresh { self.new.fresh ≡ false }
     {
         self.begun = true;
-        obey(&mut self.objects, command, self.alloc)
+        let reply = obey(&mut self.objects, command, self.alloc);
+        self.objects.stands();
+        reply
+    }
+
+    /// What holds of the objects.
+    pub fn stands(&self)
+        ensures stands { Stands self.now.state }
+    {
+        self.objects.stands();
     }
 
     // The allocator that the session was made with.

@@ -3,10 +3,11 @@
 
 mod adapters;
 
-use adapters::{StdSink, StdSource};
+use adapters::{Output, StdSink, StdSource, send};
 use hc_layout::Shape;
 use hc_script::Status;
 use hc_session::{Session, replay};
+use std::cell::RefCell;
 use std::io;
 use std::process::ExitCode;
 use std::rt::Env;
@@ -18,9 +19,19 @@ fn main(rt: HostRuntime) -> ExitCode {
     let Ok(mut session) = Session::scripted(rt.alloc(), Shape::usual()) else {
         return ExitCode::from(Status::Memory.number());
     };
-    let mut source = StdSource::new(rt.stdin());
-    let mut sink = StdSink::new(rt.stdout());
+    let Ok(output) = Output::new(rt.alloc(), rt.stdout()) else {
+        return ExitCode::from(Status::Memory.number());
+    };
+    let output = RefCell::new(output);
+    let mut source = StdSource::new(rt.stdin(), &output);
+    let mut sink = StdSink::new(&output);
     let status = replay(&words, &mut source, &mut sink, &mut session);
+    // The last replies go out here: a failure is told as one of the sink's.
+    let status = if send(&output).is_ok() {
+        status
+    } else {
+        Status::WriteFault
+    };
     ExitCode::from(status.number())
 }
 

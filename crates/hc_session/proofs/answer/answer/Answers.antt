@@ -28,7 +28,7 @@ returns-clause-write g c failed =
     ∙ ap (λ (xs : List ℕ). xs ++ line) c.clear.ensures.items in
     record {
       reply = c.in-Ok.reply;
-      new = c.command.new.self.state;
       does = c.in-Ok.ensures.done;
+      stands = c.command.ensures.stands;
       written = (written.0, (written.1.0, sym text ∙ written.1.1), written.2);
     }

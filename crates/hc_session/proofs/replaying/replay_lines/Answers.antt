@@ -3,7 +3,9 @@ use Rattle.hc_session.proofs.Runs.{progress_on}
 use Rattle.hc_session.proofs.Takes.{command_moves, command_within, command_keeps_names}
 use Rattle.hc_session.proofs.NamedWorlds.{world_kept}
 use Rattle.hc_session.proofs.Endings.{ends_done, ends_memory, ends_write, ends_fault}
+use Rattle.hc_session.proofs.Spends.{SpendLittle, run_spends, partly_spends}
 use Rattle.hc_session.proofs.replaying.replay_lines.Goals as goal
+use mathlib.Core.Logic.{inl, inr}
 
 pub answer-requires-clause-world : goal.answer-requires-clause-world
 answer-requires-clause-world g c =
@@ -47,3 +49,23 @@ pub returns-in-Err-clause-written : goal.returns-in-Err-clause-written
 returns-in-Err-clause-written g c =
     ends_fault _ _ _ _ _ _ _ _ _ _ _ c.in-Err.fault _ c.commands.invariant.progress (c.in-Err.ensures.serves c.commands.invariant.going)
     (λ read. c.in-Err.ensures.dropped c.commands.invariant.going (rw read refl)) c.end_by_fault.ensures.written
+
+pub returns-in-Err-Memory-clause-spent : goal.returns-in-Err-Memory-clause-spent
+returns-in-Err-Memory-clause-spent g c = inl refl
+
+pub returns-in-Err-Write-clause-spent : goal.returns-in-Err-Write-clause-spent
+returns-in-Err-Write-clause-spent g c =
+    let took = rw c.in-Ok-Some.field-0-is at (c.in-Ok-Some.ensures.serves c.commands.invariant.going) in
+    let answered = rw c.names.ensures.names at (c.in-Err-Write.ensures.write (rw c.in-Err-Write.field-0-is refl)) in
+    let law : SpendLittle = record { one = c.operations_spend_little.ensures.one; none = c.operations_spend_little.ensures.none; onward = c.operations_spend_little.ensures.onward } in
+    inr (partly_spends law _ _ _ _ _ _ _ _ _ _ _ _ c.stands.ensures.stands c.commands.invariant.progress took answered)
+
+pub returns-in-Ok-None-clause-spent : goal.returns-in-Ok-None-clause-spent
+returns-in-Ok-None-clause-spent g c =
+    let law : SpendLittle = record { one = c.operations_spend_little.ensures.one; none = c.operations_spend_little.ensures.none; onward = c.operations_spend_little.ensures.onward } in
+    inr (run_spends law _ _ _ _ _ _ c.stands.ensures.stands c.commands.invariant.progress)
+
+pub returns-in-Err-clause-spent : goal.returns-in-Err-clause-spent
+returns-in-Err-clause-spent g c =
+    let law : SpendLittle = record { one = c.operations_spend_little.ensures.one; none = c.operations_spend_little.ensures.none; onward = c.operations_spend_little.ensures.onward } in
+    inr (run_spends law _ _ _ _ _ _ c.stands.ensures.stands c.commands.invariant.progress)
