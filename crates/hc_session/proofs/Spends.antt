@@ -39,7 +39,9 @@ lines_spend : SpendLittle → (lines : List (List ℕ)) (start end : Place) (tex
 lines_spend law [] start end text stands answers = subst (λ (p : Place). IsSpent 0 start.state.objects p.state.objects) (sym answers.0) (law.none 0 start.state.objects)
 lines_spend law (line ∷ lines) start end text stands answers =
     let first = line_spends law start answers.0 line answers.1 stands answers.3 in
-    law.onward 1 (length lines) start.state.objects answers.0.state.objects end.state.objects first.0 (lines_spend law lines answers.0 end answers.2 first.1 answers.4)
+    let one_more : 1 + length lines ≡ length (line ∷ lines) = omega arith in
+    subst (λ (n : ℕ). IsSpent n start.state.objects end.state.objects) one_more
+    (law.onward 1 (length lines) start.state.objects answers.0.state.objects end.state.objects first.0 (lines_spend law lines answers.0 end answers.2 first.1 answers.4))
 
 -- lines that were taken are no more than there are
 taken_few : (before ahead : Option (List ℕ)) (lines : List (List ℕ)) → TakesLines before ahead lines → IfSome before (λ bytes. length lines ≤ length (lines_of bytes))

@@ -78,7 +78,7 @@ loads_moved a n more = record {
     went = tt;
   };
   modes = λ p. slow_ones_stay a p (cause_in a.kept p) refl;
-  needs = record { maps = omega arith; entries = omega arith; fields = omega arith; links = omega arith; slots = omega arith };
+  needs = record { maps = omega arith; entries = omega arith; fields = omega arith; links = omega arith; slots = omega arith; cells = refl; rises = record { maps = omega arith; entries = omega arith; fields = omega arith; links = omega arith; slots = omega arith } };
   protos = record { named = λ p no. absurd no; others = λ p other. refl };
 }
 

@@ -38,7 +38,7 @@ pub returns-in-Err-Write-clause-written : goal.returns-in-Err-Write-clause-writt
 returns-in-Err-Write-clause-written g c =
     let took = rw c.in-Ok-Some.field-0-is at (c.in-Ok-Some.ensures.serves c.commands.invariant.going) in
     let answered = rw c.names.ensures.names at (c.in-Err-Write.ensures.write (rw c.in-Err-Write.field-0-is refl)) in
-    ends_write _ _ (g.S.Source.left c.next.new.source) _ _ _ _ _ _ _ _ _ c.commands.invariant.progress took answered
+    ends_write _ _ (g.S.Source.left c.next.new.source) _ _ _ _ _ _ _ _ _ _ c.commands.invariant.progress took answered
 
 pub returns-in-Ok-None-clause-written : goal.returns-in-Ok-None-clause-written
 returns-in-Ok-None-clause-written g c =
