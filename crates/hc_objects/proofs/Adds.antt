@@ -1,22 +1,21 @@
 -- What an add makes of modes, needs and prototypes, however it is done.
-use Rattle.std.proofs.Common.{◌≡◌, ℕ, ◌<◌, List, Bool, true, false, cond, Option, Some, None, length, refl, sym, ap, ◌∙◌, subst, arith, rules}
-use Rattle.std.specs.Prelude.{IsTrue, IfSome, ◌↔◌, nat_lt}
+use Rattle.std.proofs.Common.{◌≡◌, ℕ, ◌<◌, List, Bool, true, false, cond, Option, Some, None, length, refl, sym, ◌∙◌, subst, rules}
+use Rattle.std.specs.Prelude.{nat_lt}
 use Rattle.std.proofs.lemmas.Bool.Decides.{nat_tests}
 use Rattle.hc_board.specs.Trail.{Access}
 use Rattle.hc_layout.specs.declared.capacity.TheConstants.{MAX_FAST}
-use Rattle.hc_layout.specs.declared.shape.Shape.{Shape}
 use Rattle.hc_heap.specs.Readings.{root_in}
 use Rattle.hc_value.specs.declared.prop.Prop.{Prop}
 use Rattle.hc_value.specs.declared.reply.Cause.{Cause}
 use Rattle.hc_value.specs.declared.reply.Cause.TheVariants.{Many, Space}
 use Rattle.hc_tree.specs.Needs.{HasSpace, no_need}
-use Rattle.hc_table.specs.Changes.{Did, Moved, Added}
+use Rattle.hc_table.specs.Changes.{Moved, Added}
 use Rattle.hc_table.specs.World.{props_at}
 use Rattle.hc_objects.specs.Changes.{KeptBut}
-use Rattle.hc_objects.specs.Meaning.{Dictionary, cause_in, kept_of, world}
+use Rattle.hc_objects.specs.Meaning.{Dictionary, cause_in, kept_of}
 use Rattle.hc_objects.specs.State.{ObjectsState}
 use Rattle.hc_objects.specs.Modes.{Becomes, StaysFast, IsOne, IsWithin, add_need, if_many}
-use Rattle.hc_objects.specs.Came.{IsStill, Steps, Made, world_of}
+use Rattle.hc_objects.specs.Came.{Steps, Made, world_of}
 use Rattle.hc_objects.proofs.Composing.{left-one, left-slow, slow-one, all-stay, cause-but, no-cause, protos-same}
 use Rattle.hc_objects.proofs.Needing.{within-same}
 

@@ -1,11 +1,9 @@
 -- An object that becomes a prototype: why it is slow then, where it is, and what it needed.
 use Rattle.std.proofs.Common.{◌≡◌, ℕ, ◌+◌, ◌≤◌, Bool, true, false, cond, List, Option, Some, None, IsSome, refl, sym, ap, ◌∙◌, subst, arith}
 use Rattle.std.specs.Prelude.{option_map}
-use Rattle.hc_board.specs.Trail.{Access}
 use Rattle.hc_layout.specs.declared.shape.Shape.{Shape}
 use Rattle.hc_layout.specs.declared.shape.Region.TheVariants.{Maps, Entries, Fields, Links, Slots}
 use Rattle.hc_value.specs.declared.reply.Cause.{Cause}
-use Rattle.hc_value.specs.declared.reply.Cause.TheVariants.{Space}
 use Rattle.hc_heap.specs.Readings.{map_in, root_in}
 use Rattle.hc_heap.specs.States.{View, HeapState, IsHeap, one_load}
 use Rattle.hc_descs.specs.Entries.{count_of}
@@ -13,14 +11,10 @@ use Rattle.hc_tree.specs.declared.need.Need.{Need}
 use Rattle.hc_tree.specs.Copying.{copy_need}
 use Rattle.hc_tree.specs.Growth.{IsUnmoved}
 use Rattle.hc_tree.specs.Needs.{HasSpace, no_need, with_need}
-use Rattle.hc_table.specs.Changes.{Moved}
-use Rattle.hc_objects.specs.Came.{IsStill, Steps}
-use Rattle.hc_objects.specs.Changes.{KeptBut}
+use Rattle.hc_objects.specs.Came.{IsStill}
 use Rattle.hc_objects.specs.Meaning.{Dictionary, cause_in, kept_of}
-use Rattle.hc_objects.specs.Modes.{Becomes, StaysFast, if_fast, need_by, proto_need}
+use Rattle.hc_objects.specs.Modes.{Becomes, if_fast, need_by, proto_need}
 use Rattle.hc_objects.specs.State.{ObjectsState}
-use Rattle.hc_objects.proofs.Composing.{no-cause, steps-on, still-steps}
-use Rattle.hc_objects.proofs.Items.{kept-same}
 use Rattle.hc_objects.proofs.Rising.{some-of}
 
 -- Needs

@@ -1,5 +1,5 @@
 -- How what was done to objects follows on what was done before.
-use Rattle.std.proofs.Common.{◌≡◌, ◌≢◌, ℕ, List, Option, Some, None, refl, sym, ap, ◌∙◌, subst, arith}
+use Rattle.std.proofs.Common.{◌≡◌, ◌≢◌, ℕ, List, Option, Some, None, refl, sym, ap, ◌∙◌, subst}
 use Rattle.std.specs.Prelude.{IfSome, option_map}
 use Rattle.hc_board.specs.Trail.{Access}
 use Rattle.hc_value.specs.declared.reply.Cause.{Cause}

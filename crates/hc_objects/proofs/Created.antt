@@ -1,5 +1,5 @@
 -- An object is made in steps: it is slow at first, then its prototype becomes one, and then it comes to a root.
-use Rattle.std.proofs.Common.{◌≡◌, ◌≢◌, ℕ, zero, suc, ◌+◌, ◌<◌, ◌≤◌, false, List, [], ◌∷◌, ◌++◌, Option, Some, None, IfSome, length, refl, sym, ap, ◌∙◌, subst, arith}
+use Rattle.std.proofs.Common.{◌≡◌, ◌≢◌, ℕ, zero, suc, ◌+◌, ◌<◌, false, List, [], ◌∷◌, ◌++◌, Option, Some, None, IfSome, length, refl, sym, ap, ◌∙◌, subst, arith}
 use Rattle.std.specs.Prelude.{IsTrue, option_map}
 use Rattle.hc_board.specs.Trail.{Access}
 use Rattle.hc_layout.specs.declared.shape.Shape.{Shape}
@@ -11,17 +11,16 @@ use Rattle.hc_heap.specs.States.{View}
 use Rattle.hc_tree.specs.declared.need.Need.{Need}
 use Rattle.hc_tree.specs.Growth.{MayBePrototype, root_of, root_need}
 use Rattle.hc_tree.specs.Needs.{HasSpace, no_need, with_need}
-use Rattle.hc_table.specs.Changes.{Did, Created, Moved, IsThere, after}
-use Rattle.hc_table.specs.World.{Object, World, new_object, object, with_object}
+use Rattle.hc_table.specs.Changes.{Did, Created, Moved, IsThere}
+use Rattle.hc_table.specs.World.{Object, World, new_object, object}
 use Rattle.hc_objects.specs.Becoming.{IsSpare}
 use Rattle.hc_objects.specs.Came.{IsStill, Made, Steps, world_of}
 use Rattle.hc_objects.specs.Creating.{IsBegun, IsEntered}
 use Rattle.hc_objects.specs.Inheriting.{IsNamedNow, IsSpareOf}
 use Rattle.hc_objects.specs.Laws.{steps-before}
-use Rattle.hc_objects.specs.Meaning.{Dictionary, cause_in, dictionary_object, kept_of}
+use Rattle.hc_objects.specs.Meaning.{Dictionary, cause_in, kept_of}
 use Rattle.hc_objects.specs.Modes.{Becomes, IsNamed, IsWithin, StaysFast, both, if_fast, if_named, named_need, need_of, proto_need}
 use Rattle.hc_objects.specs.State.{ObjectsState}
-use Rattle.hc_objects.proofs.Become.{with-none}
 use Rattle.hc_objects.proofs.Composing.{cause-but}
 use Rattle.hc_objects.proofs.Needing.{IsAtMost, none-least, same-least}
 use Rattle.hc_objects.proofs.Worlds.{length-world}

@@ -1,42 +1,27 @@
 -- An object without properties that is made slow: what becomes of the objects, and whether there is room for it.
-use Rattle.std.proofs.Common.{◌≡◌, ℕ, ◌+◌, ◌<◌, ◌≤◌, Bool, true, false, cond, eqb, eqb-true, eq-eqb, true≢false, List, [], ◌∷◌, ◌++◌, Option, Some, None, IfSome, length, refl, sym, ap, ◌∙◌, subst, arith}
+use Rattle.std.proofs.Common.{◌≡◌, ℕ, ◌+◌, ◌<◌, ◌≤◌, false, List, [], ◌∷◌, ◌++◌, Option, Some, None, length, refl, sym, ap, ◌∙◌, subst, arith}
 use Rattle.std.proofs.Math.Nat.{le_refl}
-use Rattle.std.specs.Prelude.{IsSomeAnd, IsTrue, Result, Ok, Err, IsErrAnd, IsErrOf}
-use Rattle.hc_layout.specs.declared.shape.Region.TheVariants.{Maps, Entries, Fields, Links, Objects, Slots}
-use Rattle.hc_layout.specs.declared.words.GateWord.{GateWord}
+use Rattle.std.specs.Prelude.{Result, Ok, Err, IsErrAnd, IsErrOf}
+use Rattle.hc_layout.specs.declared.shape.Region.TheVariants.{Objects}
 use Rattle.hc_layout.specs.declared.words.RootWord.{RootWord}
-use Rattle.hc_layout.specs.declared.words.StoreWord.{StoreWord}
-use Rattle.hc_heap.specs.Writes.{Trail, ObjectMap}
-use Rattle.hc_heap.specs.Readings.{no_store, gate_in, parent_in, prototype_in, bits_in, map_in, root_in, store_in}
-use Rattle.hc_heap.specs.Lawful.{Lawful, LawfulObjectMap, HoldsEntries}
-use Rattle.hc_heap.specs.Kept.{Adds, DetailsRise, UnusedSaysNothing}
-use Rattle.hc_heap.specs.Frames.{adds-none, adds-on, goes-on-of}
+use Rattle.hc_heap.specs.Readings.{map_in, root_in}
+use Rattle.hc_heap.specs.Kept.{DetailsRise, UnusedSaysNothing}
+use Rattle.hc_heap.specs.Frames.{adds-none}
 use Rattle.hc_heap.specs.States.{View, IsHeap, HasRoom}
-use Rattle.hc_heap.specs.declared.kind.Kind.TheVariants.{RootOfObject, StoreOfObject}
-use Rattle.hc_descs.specs.Entries.{entries_in}
-use Rattle.hc_tree.specs.Tree.{IsTree, IsRoot, gate_with}
-use Rattle.hc_tree.specs.Growth.{root_of, root_need}
-use Rattle.hc_tree.specs.Needs.{HasSpace}
-use Rattle.hc_tree.specs.Kept.{MapsAreKept, TreesStay}
+use Rattle.hc_heap.specs.declared.kind.Kind.TheVariants.{RootOfObject}
+use Rattle.hc_tree.specs.Kept.{MapsAreKept}
 use Rattle.hc_table.specs.Changes.{Created, IsThere}
 use Rattle.hc_table.specs.Kept.{ChangesKeep}
 use Rattle.hc_table.specs.declared.fault.TableFault.{TableFault}
 use Rattle.hc_table.specs.declared.fault.TableFault.TheVariants.{Memory, Full}
-use Rattle.hc_table.specs.World.{Object, new_object, object, with_object}
-use Rattle.hc_objects.specs.Listed.{listed}
-use Rattle.hc_objects.specs.Meaning.{Dictionary, dictionary_object, is_extensible, object_shown, prop_in, proto_of, world}
-use Rattle.hc_objects.specs.State.{ObjectsState, AreHandedOut, AreRoots, HasMap, IsIn, IsObjects, tables_of}
-use Rattle.hc_objects.specs.Changes.{Touches, Changed, IsWell}
+use Rattle.hc_table.specs.World.{new_object, object, with_object}
+use Rattle.hc_objects.specs.Meaning.{Dictionary, dictionary_object, object_shown, world}
+use Rattle.hc_objects.specs.State.{ObjectsState, IsObjects, tables_of}
+use Rattle.hc_objects.specs.Changes.{Changed, IsWell}
 use Rattle.hc_objects.specs.Came.{world_of}
 use Rattle.hc_objects.proofs.Items.{kept-push_here, length-push}
-use Rattle.hc_objects.proofs.Owning.{map-none, open-used}
-use Rattle.hc_objects.proofs.Rising.{some-of}
-use Rattle.hc_objects.proofs.Sound.{is-later, some-is}
-use Rattle.hc_objects.proofs.Sparing.{named-stays}
-use Rattle.hc_objects.proofs.Staying.{IsLater, proto-stays}
+use Rattle.hc_objects.proofs.Owning.{map-none}
 use Rattle.hc_objects.proofs.Stepping.{made-world, made-sound}
-use Rattle.hc_objects.proofs.Steps.{move-tree}
-use Rattle.hc_objects.proofs.Touching.{map-moved, root-made}
 use Rattle.hc_objects.proofs.Worlds.{length-world, object-world}
 
 -- An object that is not there yet

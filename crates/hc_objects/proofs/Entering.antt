@@ -1,5 +1,5 @@
 -- A new object comes to the root of its prototype, or of null, which is made where there is none.
-use Rattle.std.proofs.Common.{◌≡◌, ◌≢◌, ℕ, ◌+◌, ◌<◌, ◌≤◌, Bool, true, false, cond, eqb, eqb-true, eq-eqb, true≢false, List, [], ◌∷◌, Option, Some, None, IfSome, length, set, refl, sym, ap, ◌∙◌, subst, arith}
+use Rattle.std.proofs.Common.{◌≡◌, ℕ, ◌<◌, Bool, true, false, cond, eqb, eqb-true, eq-eqb, true≢false, List, ◌∷◌, Option, Some, None, IfSome, length, set, refl, sym, ap, ◌∙◌, subst, arith}
 use Rattle.std.proofs.lemmas.List.{length-set}
 use Rattle.std.specs.Prelude.{IsSomeAnd, IsTrue, Result, Ok}
 use Rattle.hc_layout.specs.declared.shape.Region.TheVariants.{Maps}
@@ -9,7 +9,7 @@ use Rattle.hc_layout.specs.declared.words.RootWord.{RootWord}
 use Rattle.hc_layout.specs.declared.words.StoreWord.{StoreWord}
 use Rattle.hc_heap.specs.Writes.{Trail, ObjectMap}
 use Rattle.hc_heap.specs.Readings.{gate_in, parent_in, prototype_in, bits_in, map_in, root_in, store_in}
-use Rattle.hc_heap.specs.Lawful.{Lawful, LawfulObjectMap, HoldsEntries}
+use Rattle.hc_heap.specs.Lawful.{LawfulObjectMap, HoldsEntries}
 use Rattle.hc_heap.specs.Kept.{Adds, DetailsRise, UnusedSaysNothing}
 use Rattle.hc_heap.specs.Frames.{adds-none, adds-on, goes-on-of}
 use Rattle.hc_heap.specs.States.{View, HeapState, IsHeap, with_write}
@@ -19,13 +19,12 @@ use Rattle.hc_tree.specs.Growth.{IsStill, IsUnmoved, root_of, root_need, with_na
 use Rattle.hc_tree.specs.Kept.{MapsAreKept, TreesStay}
 use Rattle.hc_tree.specs.Needs.{with_need}
 use Rattle.hc_tree.specs.Tree.{IsRoot, IsTree, gate_with}
-use Rattle.hc_table.specs.Kept.{IsKept, with_world}
-use Rattle.hc_table.specs.World.{Object, World, new_object, object}
+use Rattle.hc_table.specs.World.{Object, new_object, object}
 use Rattle.hc_objects.specs.Changes.{Touches, Changed, IsWell}
 use Rattle.hc_objects.specs.Creating.{IsRooted, rooted, null_after}
 use Rattle.hc_objects.specs.Listed.{listed}
 use Rattle.hc_objects.specs.Meaning.{Dictionary, is_extensible, kept_of, object_shown, prop_in, proto_of, world}
-use Rattle.hc_objects.specs.State.{AreHandedOut, AreRoots, HasMap, IsIn, IsObjects, tables_of}
+use Rattle.hc_objects.specs.State.{AreHandedOut, AreRoots, IsIn, IsObjects}
 use Rattle.hc_objects.proofs.Items.{kept-set, kept-set_here}
 use Rattle.hc_objects.proofs.Left.{set-object}
 use Rattle.hc_objects.proofs.Owning.{open-used}

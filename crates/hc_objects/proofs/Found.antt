@@ -1,10 +1,10 @@
 -- The map with another prototype and the keys of an object's map: from the root on.
-use Rattle.std.proofs.Common.{◌≡◌, ℕ, ◌<◌, false, ◌∷◌, Option, Some, None, IfSome, refl, sym, ap, ◌∙◌, subst, arith}
+use Rattle.std.proofs.Common.{◌≡◌, ℕ, false, ◌∷◌, Option, Some, None, refl, ap, ◌∙◌, subst, arith}
 use Rattle.hc_layout.specs.declared.shape.Shape.{Shape}
 use Rattle.hc_heap.specs.Writes.{Write, Trail, Bits, ObjectMap, Root, Store, Slot}
-use Rattle.hc_heap.specs.Readings.{gate_in, map_in, root_in, store_in, slot_in}
+use Rattle.hc_heap.specs.Readings.{gate_in, map_in, store_in, slot_in}
 use Rattle.hc_heap.specs.Lawful.{Lawful}
-use Rattle.hc_heap.specs.Kept.{Adds, DetailsRise}
+use Rattle.hc_heap.specs.Kept.{DetailsRise}
 use Rattle.hc_heap.specs.Frames.{adds-on, adds-wider, goes-on-of}
 use Rattle.hc_heap.specs.States.{View, IsHeap}
 use Rattle.hc_tree.specs.Tree.{gate_with}
@@ -13,7 +13,7 @@ use Rattle.hc_tree.specs.Growth.{root_of, root_need}
 use Rattle.hc_tree.specs.Needs.{with_need}
 use Rattle.hc_objects.specs.State.{AreRoots}
 use Rattle.hc_objects.specs.Changes.{Touches}
-use Rattle.hc_objects.specs.Linking.{GrowsTree, IsWalked, HasMapFor, shared_need}
+use Rattle.hc_objects.specs.Linking.{GrowsTree, IsWalked, HasMapFor}
 use Rattle.hc_objects.specs.Modes.{IsWithin, walk_need}
 use Rattle.hc_objects.proofs.Needing.{no-less-need, no-less-on}
 use Rattle.hc_objects.proofs.Rooted.{IsRooted, rooted-writes, rooted-roots}

@@ -1,6 +1,6 @@
 -- An object that gets another prototype, after that became one: modes, needs and prototypes.
-use Rattle.std.proofs.Common.{◌≡◌, ◌≢◌, ℕ, zero, suc, ◌+◌, ◌<◌, ◌≤◌, Bool, true, false, cond, eqb, eq-eqb, true≢false, List, Option, Some, None, IsSome, IfSome, length, refl, sym, ap, ◌∙◌, subst, arith}
-use Rattle.std.specs.Prelude.{IsTrue, option_map, ◌↔◌, if◌then◌else◌}
+use Rattle.std.proofs.Common.{◌≡◌, ◌≢◌, ℕ, zero, suc, ◌<◌, Bool, true, false, cond, eq-eqb, true≢false, List, Option, Some, None, IfSome, length, refl, sym, ap, ◌∙◌, subst, arith}
+use Rattle.std.specs.Prelude.{IsTrue, option_map, if◌then◌else◌}
 use Rattle.hc_board.specs.Trail.{Access}
 use Rattle.hc_layout.specs.declared.shape.Shape.{Shape}
 use Rattle.hc_value.specs.declared.prop.Prop.{Prop}
@@ -19,9 +19,9 @@ use Rattle.hc_table.specs.World.{Object, World, object, props_at}
 use Rattle.hc_objects.specs.Becoming.{HasSpare, IsSpare}
 use Rattle.hc_objects.specs.Came.{IsStill, Steps, Made, world_of}
 use Rattle.hc_objects.specs.Changes.{KeptBut}
-use Rattle.hc_objects.specs.Inheriting.{IsFull, IsLinkedNow, IsNamedNow, IsSpareFor, IsSpareOf, spared_named, spared_need}
+use Rattle.hc_objects.specs.Inheriting.{IsLinkedNow, IsNamedNow, IsSpareFor, IsSpareOf, spared_named, spared_need}
 use Rattle.hc_objects.specs.Meaning.{Dictionary, cause_in, kept_of, fast_props, prop_in, world}
-use Rattle.hc_objects.specs.Modes.{Becomes, IsLinked, IsNamed, IsWithin, Names, ProtosAfter, StaysFast, both, if_fast, if_named, link_need, named_need, need_by, proto_need, walk_need}
+use Rattle.hc_objects.specs.Modes.{Becomes, IsNamed, IsWithin, StaysFast, both, if_fast, if_named, link_need, named_need, need_by, proto_need, walk_need}
 use Rattle.hc_objects.specs.State.{ObjectsState, IsObjects}
 use Rattle.hc_objects.proofs.Adding.{map-is}
 use Rattle.hc_objects.proofs.Composing.{but-on, cause-but, no-cause, steps-on}

@@ -1,12 +1,12 @@
 -- An object with another shared map that has the same keys.
-use Rattle.std.proofs.Common.{◌≡◌, ℕ, ◌<◌, ◌≤◌, Bool, true, false, not, List, [], ◌∷◌, Option, Some, None, refl, sym, ap, ◌∙◌, subst, arith}
+use Rattle.std.proofs.Common.{◌≡◌, ℕ, ◌<◌, ◌≤◌, Bool, false, List, Option, Some, sym, ap, ◌∙◌, subst}
 use Rattle.std.specs.Prelude.{IsSomeAnd}
 use Rattle.hc_layout.specs.declared.words.GateWord.{GateWord}
 use Rattle.hc_value.specs.declared.field.Detail.{Detail}
 use Rattle.hc_value.specs.declared.key.Key.{Key}
 use Rattle.hc_value.specs.declared.prop.Prop.{Prop}
 use Rattle.hc_heap.specs.Writes.{Trail}
-use Rattle.hc_heap.specs.Readings.{gate_in, prototype_in, store_in, detail_in}
+use Rattle.hc_heap.specs.Readings.{gate_in, store_in, detail_in}
 use Rattle.hc_heap.specs.Lawful.{IsField, IsFormOf, HoldsEntry, HoldsEntries}
 use Rattle.hc_descs.specs.Entries.{key_at, field_at, count_of, entries_in}
 use Rattle.hc_tree.specs.Tree.{IsTree, gate_with, tagged_field}

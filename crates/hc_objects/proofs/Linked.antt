@@ -1,7 +1,6 @@
 -- A fast object that gets another prototype: what it asks, and what becomes of the objects.
-use Rattle.std.proofs.Common.{◌≡◌, ◌≢◌, ℕ, ◌+◌, ◌<◌, ◌≤◌, Bool, true, false, List, [], ◌∷◌, Option, Some, None, IfSome, length, set, refl, sym, ap, ◌∙◌, subst, arith}
+use Rattle.std.proofs.Common.{◌≡◌, ℕ, ◌+◌, ◌<◌, ◌≤◌, Bool, true, false, List, Option, Some, None, IfSome, length, refl, sym, ap, ◌∙◌, subst, arith}
 use Rattle.std.specs.Prelude.{IsTrue, ◌↔◌, if◌then◌else◌}
-use Rattle.hc_layout.specs.declared.shape.Shape.{Shape}
 use Rattle.hc_layout.specs.declared.words.GateWord.{GateWord}
 use Rattle.hc_layout.specs.declared.words.StoreWord.{StoreWord}
 use Rattle.hc_heap.specs.Writes.{Trail}
@@ -9,7 +8,7 @@ use Rattle.hc_heap.specs.Readings.{gate_in, map_in, root_in, store_in}
 use Rattle.hc_heap.specs.Lawful.{HoldsEntries, word_from}
 use Rattle.hc_heap.specs.Kept.{DetailsRise, GatesAreOpen}
 use Rattle.hc_heap.specs.States.{View}
-use Rattle.hc_descs.specs.Entries.{count_of, entries_in}
+use Rattle.hc_descs.specs.Entries.{entries_in}
 use Rattle.hc_tree.specs.declared.need.Need.{Need}
 use Rattle.hc_tree.specs.Copying.{copy_need}
 use Rattle.hc_tree.specs.Tree.{gate_with}
@@ -19,7 +18,7 @@ use Rattle.hc_tree.specs.Needs.{HasSpace}
 use Rattle.hc_table.specs.Changes.{IsThere, Linked, reaches, with_link, with_proto}
 use Rattle.hc_table.specs.Kept.{ChangesKeep}
 use Rattle.hc_table.specs.World.{Object, World, object}
-use Rattle.hc_objects.specs.Meaning.{Dictionary, kept_of, slot_word, fast_object, object_shown, object_at, world}
+use Rattle.hc_objects.specs.Meaning.{Dictionary, kept_of, object_shown, object_at, world}
 use Rattle.hc_objects.specs.Came.{world_of}
 use Rattle.hc_objects.specs.State.{ObjectsState, AreHandedOut, AreRoots, IsFast, IsIn, IsObjects, tables_of}
 use Rattle.hc_objects.specs.Changes.{IsWell, KeptBut, SlotsStay}

@@ -1,6 +1,5 @@
 -- What an object needs to get one property more.
-use Rattle.std.proofs.Common.{◌≡◌, ℕ, ◌+◌, ◌≤◌, Bool, false, cond, Option, Some, None, refl, sym, ap, ◌∙◌, subst, arith}
-use Rattle.std.specs.Prelude.{IsSomeAnd, if◌then◌else◌}
+use Rattle.std.proofs.Common.{◌≡◌, ℕ, ◌≤◌, Bool, false, Option, Some, None, refl, sym, ap, ◌∙◌, subst, arith}
 use Rattle.hc_layout.specs.declared.shape.Shape.{Shape}
 use Rattle.hc_layout.specs.declared.words.GateWord.{GateWord}
 use Rattle.hc_value.specs.declared.prop.Prop.{Prop}
@@ -8,10 +7,8 @@ use Rattle.hc_heap.specs.Readings.{gate_in, map_in, root_in, store_in}
 use Rattle.hc_heap.specs.States.{View}
 use Rattle.hc_descs.specs.Entries.{entries_in}
 use Rattle.hc_tree.specs.declared.need.Need.{Need}
-use Rattle.hc_tree.specs.Copying.{copy_need}
 use Rattle.hc_tree.specs.Growth.{child_need, live_child}
 use Rattle.hc_tree.specs.Needs.{HasSpace, no_need, with_need}
-use Rattle.hc_tree.specs.Tree.{tagged_field}
 use Rattle.hc_objects.specs.Changes.{key_of}
 use Rattle.hc_objects.specs.Filling.{MayGrowBy, slots_need, with_growth}
 use Rattle.hc_objects.specs.Modes.{IsNoLess, IsWithin, add_need, both, grown_need, need_by}

@@ -1,22 +1,21 @@
 -- Objects that share a map, as their properties say.
-use Rattle.std.proofs.Common.{◌≡◌, ◌≢◌, ℕ, zero, suc, ◌<◌, Bool, true, false, nat_eq, eqb-true, eq-eqb, List, [], ◌∷◌, Option, Some, None, length, refl, sym, ap, ◌∙◌, subst, arith}
+use Rattle.std.proofs.Common.{◌≡◌, ◌≢◌, ℕ, zero, suc, ◌<◌, Bool, true, false, nat_eq, eqb-true, eq-eqb, List, ◌∷◌, Option, Some, None, length, refl, sym, ap, ◌∙◌, subst, arith}
 use Rattle.std.specs.Prelude.{IsTrue, IsSomeAnd, ◌↔◌, map, slice_get}
 use Rattle.hc_layout.specs.declared.words.GateWord.{GateWord}
 use Rattle.hc_value.specs.declared.field.Detail.{Detail}
 use Rattle.hc_value.specs.declared.key.Key.{Key}
 use Rattle.hc_value.specs.declared.prop.Kind.{Kind}
 use Rattle.hc_value.specs.declared.prop.Prop.{Prop}
-use Rattle.hc_value.specs.declared.reply.Cause.{Cause}
 use Rattle.hc_heap.specs.Writes.{Trail}
-use Rattle.hc_heap.specs.Readings.{gate_in, prototype_in, map_in, root_in}
+use Rattle.hc_heap.specs.Readings.{gate_in, prototype_in, map_in}
 use Rattle.hc_heap.specs.Kept.{GatesAreOpen}
 use Rattle.hc_heap.specs.Lawful.{key_from, field_from}
 use Rattle.hc_heap.specs.States.{View}
 use Rattle.hc_descs.specs.Entries.{key_at, count_of}
 use Rattle.hc_tree.specs.Copying.{detail_at, detail_of}
-use Rattle.hc_table.specs.World.{Object, object, props_at}
+use Rattle.hc_table.specs.World.{Object, props_at}
 use Rattle.hc_objects.specs.Listed.{listed}
-use Rattle.hc_objects.specs.Meaning.{Dictionary, cause_in, kept_of, held_in, prop_of, prop_in, proto_of, slot_word, fast_object, fast_props, world}
+use Rattle.hc_objects.specs.Meaning.{Dictionary, kept_of, prop_of, prop_in, proto_of, slot_word, world}
 use Rattle.hc_objects.specs.State.{ObjectsState, HasMap, IsKeptSo, IsObjects}
 use Rattle.hc_objects.specs.Changes.{key_of}
 use Rattle.hc_objects.specs.Came.{world_of}
@@ -24,7 +23,7 @@ use Rattle.hc_objects.specs.Modes.{AreAlike}
 use Rattle.hc_objects.proofs.Composing.{no-cause}
 use Rattle.hc_objects.proofs.Listed.{length-listed, listed-same, slice_get-listed}
 use Rattle.hc_objects.proofs.Places.{held-kind}
-use Rattle.hc_objects.proofs.Reading.{EntryIs, entry-is}
+use Rattle.hc_objects.proofs.Reading.{entry-is}
 use Rattle.hc_objects.proofs.Rising.{some-of, not-both}
 use Rattle.hc_objects.proofs.Sharing.{one-map}
 use Rattle.hc_objects.proofs.Sound.{some-is}

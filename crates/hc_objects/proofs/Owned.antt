@@ -1,5 +1,5 @@
 -- A fast object becomes a prototype with a private map: that its writes are lawful, and the step that they make.
-use Rattle.std.proofs.Common.{◌≡◌, ℕ, ◌+◌, ◌<◌, ◌≤◌, Bool, true, false, cond, not, eq-eqb, true≢false, List, ◌∷◌, Option, Some, None, IfSome, length, refl, sym, ap, ◌∙◌, subst, arith}
+use Rattle.std.proofs.Common.{◌≡◌, ℕ, ◌+◌, ◌<◌, ◌≤◌, Bool, true, false, cond, eq-eqb, true≢false, List, ◌∷◌, Option, Some, None, IfSome, length, refl, sym, ap, ◌∙◌, subst, arith}
 use Rattle.std.specs.Prelude.{IsSome, IsSomeAnd, IsTrue}
 use Rattle.hc_layout.specs.declared.capacity.TheConstants.{MAX_FAST}
 use Rattle.hc_layout.specs.declared.shape.Shape.{Shape}
@@ -8,18 +8,15 @@ use Rattle.hc_layout.specs.declared.words.GateWord.{GateWord}
 use Rattle.hc_layout.specs.declared.words.MapBits.{MapBits}
 use Rattle.hc_layout.specs.declared.words.RootWord.{RootWord}
 use Rattle.hc_layout.specs.declared.words.StoreWord.{StoreWord}
-use Rattle.hc_value.specs.declared.field.Detail.{Detail}
-use Rattle.hc_value.specs.declared.key.Key.{Key}
-use Rattle.hc_value.specs.declared.prop.Prop.{Prop}
 use Rattle.hc_heap.specs.Writes.{Write, Trail, Bits, ObjectMap, Root, Store, Slot}
-use Rattle.hc_heap.specs.Readings.{gate_in, prototype_in, bits_in, map_in, root_in, store_in, slot_in, detail_in}
-use Rattle.hc_heap.specs.Lawful.{Lawful, LawfulObjectMap, IsOwnMap, IsFormOf, HoldsEntry, HoldsEntries, word_from}
+use Rattle.hc_heap.specs.Readings.{gate_in, prototype_in, bits_in, map_in, root_in, store_in, slot_in}
+use Rattle.hc_heap.specs.Lawful.{Lawful, LawfulObjectMap, IsOwnMap, HoldsEntries, word_from}
 use Rattle.hc_heap.specs.Kept.{Adds, DetailsRise, FormsAreKept, GatesAreOpen, UnusedSaysNothing}
 use Rattle.hc_heap.specs.Frames.{adds-on, same-after, goes-on-of}
 use Rattle.hc_heap.specs.States.{View, IsHeap}
 use Rattle.hc_heap.specs.declared.kind.Kind.TheVariants.{RootOfObject}
-use Rattle.hc_descs.specs.Entries.{key_at, field_at, count_of, entries_in}
-use Rattle.hc_tree.specs.Copying.{IsPrivateCopy, HasNewFields, copy_need, detail_of, detail_at}
+use Rattle.hc_descs.specs.Entries.{count_of, entries_in}
+use Rattle.hc_tree.specs.Copying.{IsPrivateCopy, copy_need}
 use Rattle.hc_tree.specs.Growth.{MakesMap, MayBePrototype, marked}
 use Rattle.hc_tree.specs.Kept.{MapsAreKept, TreesStay}
 use Rattle.hc_tree.specs.Needs.{with_need}
@@ -27,17 +24,15 @@ use Rattle.hc_tree.specs.Tree.{IsTree, gate_with}
 use Rattle.hc_table.specs.World.{Object}
 use Rattle.hc_objects.specs.Becoming.{IsOwned, with_proto}
 use Rattle.hc_objects.specs.Changes.{Touches, OpensNoRoot, SlotsStay, Stepped}
-use Rattle.hc_objects.specs.Listed.{listed}
-use Rattle.hc_objects.specs.Meaning.{Dictionary, fast_object, fast_props, is_extensible, kept_of, object_shown, prop_in, prop_of, proto_of, slot_word, world}
+use Rattle.hc_objects.specs.Meaning.{Dictionary, fast_object, fast_props, is_extensible, kept_of, object_shown, proto_of, slot_word, world}
 use Rattle.hc_objects.specs.Privates.{IsAlike}
 use Rattle.hc_objects.specs.State.{HasMap, IsFast, IsIn, IsObjects, AreHandedOut}
 use Rattle.hc_objects.proofs.Alike.{alike-copy, alike-holds, fast-alike}
-use Rattle.hc_objects.proofs.Listed.{listed-same}
 use Rattle.hc_objects.proofs.Owning.{nobody-has, open-used}
 use Rattle.hc_objects.proofs.Prototypes.{became-from, became-proto, proto-touches, same-sound, same-world}
 use Rattle.hc_objects.proofs.Sound.{is-later, some-is, still-out}
 use Rattle.hc_objects.proofs.Sparing.{cond-other}
-use Rattle.hc_objects.proofs.Staying.{IsLater, later, holds-still, prop-stays}
+use Rattle.hc_objects.proofs.Staying.{IsLater, later}
 use Rattle.hc_objects.proofs.Steps.{marked-unstable, move-tree, opens-one, own-map, private-no-root}
 use Rattle.hc_objects.proofs.Touching.{map-made, map-marked, map-moved}
 use Rattle.hc_objects.proofs.Writing.{has-map}

@@ -5,16 +5,15 @@ use Rattle.hc_layout.specs.declared.shape.Shape.{Shape}
 use Rattle.hc_layout.specs.declared.shape.Region.TheVariants.{Maps}
 use Rattle.hc_layout.specs.declared.words.GateWord.{GateWord}
 use Rattle.hc_layout.specs.declared.words.StoreWord.{StoreWord}
-use Rattle.hc_heap.specs.Writes.{Write, Trail, Bits, ObjectMap, Root}
+use Rattle.hc_heap.specs.Writes.{Write, Trail, ObjectMap, Root}
 use Rattle.hc_heap.specs.Readings.{gate_in, bits_in, map_in, root_in, store_in, slot_in}
 use Rattle.hc_heap.specs.Lawful.{Lawful, LawfulObjectMap, HoldsEntries, word_from}
 use Rattle.hc_heap.specs.Kept.{Adds, DetailsRise, GatesAreOpen, SetIsKept, UnusedSaysNothing}
 use Rattle.hc_heap.specs.Frames.{same-after, adds-on, adds-wider, goes-on-of}
 use Rattle.hc_heap.specs.States.{View, IsHeap, with_write}
-use Rattle.hc_tree.specs.Tree.{IsTree, gate_with}
+use Rattle.hc_tree.specs.Tree.{gate_with}
 use Rattle.hc_tree.specs.Kept.{MapsAreKept, TreesStay}
 use Rattle.hc_tree.specs.Growth.{marked, root_of, root_need}
-use Rattle.hc_objects.specs.Meaning.{slot_word}
 use Rattle.hc_objects.specs.State.{AreRoots, IsFast}
 use Rattle.hc_objects.specs.Changes.{Touches, SlotsStay}
 use Rattle.hc_objects.specs.Linking.{GrowsTree, HasMapFor, IsRelinked, shared_need}
@@ -25,7 +24,6 @@ use Rattle.hc_objects.proofs.Likeness.{like-holds}
 use Rattle.hc_objects.proofs.Owning.{open-used}
 use Rattle.hc_objects.proofs.Rising.{not-both}
 use Rattle.hc_objects.proofs.Sound.{roots-stay}
-use Rattle.hc_objects.proofs.Sparing.{cond-other}
 use Rattle.hc_objects.proofs.Staying.{IsLater, later}
 use Rattle.hc_objects.proofs.Steps.{marked-unstable, move-tree}
 use Rattle.hc_objects.proofs.Touching.{map-marked, map-moved}

@@ -1,5 +1,5 @@
 -- What operations hand out at most, and when they leave an object slow for want of room.
-use Rattle.std.proofs.Common.{◌≡◌, ◌≢◌, ℕ, zero, suc, ◌+◌, ◌<◌, ◌≤◌, Bool, true, false, cond, List, [], ◌∷◌, Option, Some, None, IfSome, length, refl, sym, ap, ◌∙◌, subst, arith, rules, length-append}
+use Rattle.std.proofs.Common.{◌≡◌, ◌≢◌, ℕ, zero, suc, ◌+◌, ◌<◌, ◌≤◌, Bool, true, false, cond, List, [], ◌∷◌, Option, Some, None, IfSome, length, refl, sym, ap, ◌∙◌, subst, arith, length-append}
 use Rattle.std.specs.Prelude.{◌⊎◌, ⊤, ◌==◌, ◌&&◌, not, nat_le, nat_lt, option_map, slice_get, if◌then◌else◌}
 use Rattle.std.proofs.lemmas.Bool.Decides.{nat_tests}
 use Rattle.hc_board.specs.Trail.{Access}
@@ -20,10 +20,9 @@ use Rattle.hc_tree.specs.declared.need.Need.{Need}
 use Rattle.hc_tree.specs.Copying.{copy_need}
 use Rattle.hc_tree.specs.Growth.{child_need, live_child, root_need, root_of}
 use Rattle.hc_tree.specs.Needs.{HasSpace, array_of, no_need}
-use Rattle.hc_tree.specs.Tree.{tagged_field}
 use Rattle.hc_table.specs.Changes.{Did, Nothing, Moved, Created, Added, Wrote, Reconfigured, Removed, Linked, Locked, Restricted, after}
 use Rattle.hc_table.specs.World.{World, props_at, new_object}
-use Rattle.hc_objects.specs.Came.{Came, IsStill, Made, Steps, world_of}
+use Rattle.hc_objects.specs.Came.{Came, IsStill, Made, world_of}
 use Rattle.hc_objects.specs.Changes.{key_of}
 use Rattle.hc_objects.specs.Filling.{slots_need}
 use Rattle.hc_objects.specs.Meaning.{Dictionary, cause_in, kept_of, world}
@@ -294,7 +293,7 @@ module _ {P : Type 0} (a b : ObjectsState P) (few : (m : ℕ) → count_of a.hea
   one-other : (o : ℕ) (given : Option Cause) (room : Type 0) → IsOne a o given room b → given ≢ Some Space → room → (q : ℕ) → cause_in a.kept q ≢ Some Space → cause_in b.kept q ≢ Some Space
   one-other o given room h none there q other = same-or q o (cause_in b.kept q ≢ Some Space)
       (λ same. subst (λ (k : ℕ). cause_in b.kept k ≢ Some Space) (sym same)
-          (becomes-other (cause_in a.kept o) given (cause_in b.kept o) room (subst (λ (k : ℕ). cause_in a.kept k ≢ Some Space) same other) none there h.this))
+      (becomes-other (cause_in a.kept o) given (cause_in b.kept o) room (subst (λ (k : ℕ). cause_in a.kept k ≢ Some Space) same other) none there h.this))
       (λ different is. other (sym (h.others q different) ∙ is))
 
   named-other : (proto : Option ℕ) → IsNamed a proto b → (q : ℕ) → proto ≡ Some q → cause_in a.kept q ≢ Some Space → cause_in b.kept q ≢ Some Space
@@ -316,10 +315,10 @@ module _ {P : Type 0} (a b : ObjectsState P) (few : (m : ℕ) → count_of a.hea
   created-other proto world_is h q other = proto-or proto q (cause_in b.kept q ≢ Some Space)
       (λ names. named-other proto h.named q names other)
       (λ unnamed. below-or q (length a.kept) (cause_in b.kept q ≢ Some Space)
-          (λ below is. other (sym (h.others q below unnamed) ∙ is))
-          (λ past. same-or q (length a.kept) (cause_in b.kept q ≢ Some Space)
-              (λ same. subst (λ (k : ℕ). cause_in b.kept k ≢ Some Space) (sym same) new-other)
-              (λ different. none-there (omega (arith, past, different, count)))))
+      (λ below is. other (sym (h.others q below unnamed) ∙ is))
+      (λ past. same-or q (length a.kept) (cause_in b.kept q ≢ Some Space)
+      (λ same. subst (λ (k : ℕ). cause_in b.kept k ≢ Some Space) (sym same) new-other)
+      (λ different. none-there (omega (arith, past, different, count)))))
     where
       count : length b.kept ≡ length a.kept + 1
       count =
@@ -340,12 +339,12 @@ module _ {P : Type 0} (a b : ObjectsState P) (few : (m : ℕ) → count_of a.hea
   linked-other o proto h q other = proto-or proto q (cause_in b.kept q ≢ Some Space)
       (λ names. named-other proto h.named q names other)
       (λ unnamed. same-or q o (cause_in b.kept q ≢ Some Space)
-          (λ same. subst (λ (k : ℕ). cause_in b.kept k ≢ Some Space) (sym same)
-              (becomes-other (cause_in a.kept o) None (cause_in b.kept o) (HasSpace a.heap.view (both (named_need a proto b) (link_need a.heap.view.trail o proto a.of_null)))
-              (subst (λ (k : ℕ). cause_in a.kept k ≢ Some Space) same other) none-other
-              (space-least a.heap.view _ greatest_need (both-least _ _ _ _ (fast-most a.heap.view.trail few proto (cause_in b.kept)) (link-most a.heap.view.trail few o proto a.of_null)) space)
-              h.this))
-          (λ different is. other (sym (h.others q different unnamed) ∙ is)))
+      (λ same. subst (λ (k : ℕ). cause_in b.kept k ≢ Some Space) (sym same)
+      (becomes-other (cause_in a.kept o) None (cause_in b.kept o) (HasSpace a.heap.view (both (named_need a proto b) (link_need a.heap.view.trail o proto a.of_null)))
+      (subst (λ (k : ℕ). cause_in a.kept k ≢ Some Space) same other) none-other
+      (space-least a.heap.view _ greatest_need (both-least _ _ _ _ (fast-most a.heap.view.trail few proto (cause_in b.kept)) (link-most a.heap.view.trail few o proto a.of_null)) space)
+      h.this))
+      (λ different is. other (sym (h.others q different unnamed) ∙ is)))
 
   -- an operation that has room makes no object slow for want of it
   modes-other : (did : Did) → IsFinished did → world_of b ≡ after did (world_of a) → Modes a did b → (q : ℕ) → cause_in a.kept q ≢ Some Space → cause_in b.kept q ≢ Some Space

@@ -1,8 +1,8 @@
 -- The map of a fast object is made unstable: the objects are as they were.
-use Rattle.std.proofs.Common.{◌≡◌, ℕ, ◌<◌, List, ◌∷◌, Option, Some, None, length, refl, sym, ap, ◌∙◌, subst}
+use Rattle.std.proofs.Common.{◌≡◌, ℕ, ◌<◌, List, Option, None, length, refl, sym, ap, ◌∙◌, subst}
 use Rattle.std.proofs.Math.Nat.{le_refl}
 use Rattle.hc_layout.specs.declared.words.StoreWord.{StoreWord}
-use Rattle.hc_heap.specs.Writes.{Trail, Bits}
+use Rattle.hc_heap.specs.Writes.{Trail}
 use Rattle.hc_heap.specs.Readings.{gate_in, map_in, root_in, store_in, slot_in}
 use Rattle.hc_heap.specs.Kept.{DetailsRise, UnusedSaysNothing}
 use Rattle.hc_heap.specs.Frames.{goes-on-of}

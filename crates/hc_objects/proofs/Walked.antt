@@ -1,21 +1,19 @@
 -- A walk over the tree, from a root to the map that has the keys of another one.
 use Rattle.std.proofs.Common.{◌≡◌, ◌≢◌, ℕ, zero, suc, ◌+◌, ◌<◌, ◌≤◌, Bool, true, false, cond, eqb, eqb-true, ◌∷◌, Option, Some, None, IsSome, refl, sym, ap, ◌∙◌, subst, arith, add-one}
-use Rattle.std.specs.Prelude.{IsSomeAnd, IsTrue}
+use Rattle.std.specs.Prelude.{IsSomeAnd}
 use Rattle.hc_layout.specs.Capacity.{cap_of}
 use Rattle.hc_layout.specs.declared.capacity.TheConstants.{MAX_FAST}
 use Rattle.hc_layout.specs.declared.shape.Shape.{Shape}
-use Rattle.hc_layout.specs.declared.shape.Region.TheVariants.{Maps, Entries, Fields, Links, Slots}
 use Rattle.hc_layout.specs.declared.words.GateWord.{GateWord}
 use Rattle.hc_value.specs.declared.key.Key.{Key}
 use Rattle.hc_heap.specs.Writes.{Write, Trail, Bits, ObjectMap, Root, Store, Slot}
-use Rattle.hc_heap.specs.Readings.{gate_in, parent_in, prototype_in, bits_in, base_in, entry_key_in}
+use Rattle.hc_heap.specs.Readings.{gate_in, parent_in, bits_in, base_in}
 use Rattle.hc_heap.specs.Lawful.{Lawful, IsKey, key_from}
 use Rattle.hc_heap.specs.Kept.{Adds, DetailsRise, FormsAreKept, GatesAreOpen, UnusedSaysNothing}
 use Rattle.hc_heap.specs.Frames.{same-after, adds-none, adds-on, adds-wider, goes-on-of}
 use Rattle.hc_heap.specs.States.{View, IsHeap}
-use Rattle.hc_descs.specs.Entries.{key_at, LacksName, HasOtherName}
-use Rattle.hc_tree.specs.declared.need.Need.{Need}
-use Rattle.hc_tree.specs.Tree.{IsTree, IsChildFor, IsProperKey, gate_with, tagged_field}
+use Rattle.hc_descs.specs.Entries.{key_at, LacksName}
+use Rattle.hc_tree.specs.Tree.{IsTree, IsChildFor, IsProperKey, gate_with}
 use Rattle.hc_tree.specs.Kept.{MapsAreKept}
 use Rattle.hc_tree.specs.Needs.{HasSpace, with_need}
 use Rattle.hc_tree.specs.Growth.{MakesMap, MayGrow, live_child, child_need}

@@ -1,12 +1,10 @@
 -- The laws of what was done: nothing before it and after it changes nothing.
-use Rattle.std.proofs.Common.{◌≡◌, ℕ, ◌+◌, ◌≤◌, List, Option, refl, sym, ap, ◌∙◌, subst, arith}
+use Rattle.std.proofs.Common.{◌≡◌, ℕ, ◌≤◌, List, Option, refl, sym, ap, ◌∙◌, subst, arith}
 use Rattle.hc_board.specs.Trail.{Access}
-use Rattle.hc_heap.specs.States.{Goes, HeapState}
-use Rattle.hc_value.specs.declared.prop.Prop.{Prop}
 use Rattle.hc_value.specs.declared.reply.Cause.{Cause}
 use Rattle.hc_table.specs.Changes.{Did, Nothing, Moved, Created, Added, Wrote, Reconfigured, Removed, Linked, Locked, Restricted}
 use Rattle.hc_objects.specs.State.{ObjectsState}
-use Rattle.hc_objects.specs.Modes.{Modes, IsOne, IsReconfigured, IsCreated, IsLinked, IsWithin, need_of}
+use Rattle.hc_objects.specs.Modes.{Modes, IsOne, IsWithin, need_of}
 use Rattle.hc_objects.specs.Came.{IsStill, Steps, Made, Came}
 
 -- the state after so many loads

@@ -1,6 +1,5 @@
-use Rattle.std.proofs.Common.{◌≡◌, sym, subst}
+use Rattle.std.proofs.Common.{sym, subst}
 use Rattle.hc_heap.specs.States.{View, IsHeap}
-use Rattle.hc_tree.specs.Tree.{gate_with}
 use Rattle.hc_objects.specs.Linking.{HasMapFor, IsRelinked}
 use Rattle.hc_objects.specs.State.{AreRoots}
 use Rattle.hc_objects.proofs.Owning.{open-used}

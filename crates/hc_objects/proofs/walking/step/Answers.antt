@@ -1,6 +1,5 @@
-use Rattle.std.proofs.Common.{◌≡◌, ◌∙◌, ◌<◌, ℕ, false, Some, ap, sym, subst}
+use Rattle.std.proofs.Common.{◌≡◌, ℕ, ap, sym, subst}
 use Rattle.std.specs.Prelude.{IsSomeAnd}
-use Rattle.hc_layout.specs.declared.words.GateWord.{GateWord}
 use Rattle.hc_value.specs.declared.field.Detail.{Detail}
 use Rattle.hc_heap.specs.Readings.{gate_in}
 use Rattle.hc_heap.specs.States.{View}
@@ -8,7 +7,6 @@ use Rattle.hc_descs.specs.Entries.{LacksName, count_of, entries_in}
 use Rattle.hc_tree.specs.Growth.{EndsWith, MayGrow}
 use Rattle.hc_objects.proofs.Childed.{IsChilded}
 use Rattle.hc_objects.proofs.Walked.{IsNext, next-of, next-grows, next-lacks, walked-step}
-use Rattle.hc_objects.proofs.walking.step.Given.{Over}
 use Rattle.hc_objects.proofs.walking.step.Goals as goal
 
 pub child_or_make-requires-clause-open : goal.child_or_make-requires-clause-open

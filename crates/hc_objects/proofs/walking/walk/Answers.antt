@@ -1,6 +1,5 @@
-use Rattle.std.proofs.Common.{◌≡◌, ◌∙◌, ◌<◌, ℕ, false, Some, ap, sym, subst, rules}
+use Rattle.std.proofs.Common.{◌<◌, sym, subst}
 use Rattle.std.specs.Prelude.{IsSomeAnd}
-use Rattle.hc_layout.specs.declared.words.GateWord.{GateWord}
 use Rattle.hc_heap.specs.Frames.{goes-none, goes-on}
 use Rattle.hc_objects.proofs.Walked.{live-grown, walked-none, walked-later, walked-space, walked-more}
 use Rattle.hc_objects.proofs.walking.walk.Goals as goal

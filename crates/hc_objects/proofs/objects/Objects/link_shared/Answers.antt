@@ -5,7 +5,7 @@ use Rattle.hc_heap.specs.States.{View, HeapState}
 use Rattle.hc_table.specs.Changes.{Linked}
 use Rattle.hc_objects.specs.Came.{Steps}
 use Rattle.hc_objects.specs.State.{ObjectsState}
-use Rattle.hc_objects.proofs.Linked.{call-linkable, call-roots, call-may, call-room, call-world, call-sound, call-needs, call-protos}
+use Rattle.hc_objects.proofs.Linked.{call-linkable, call-may, call-room, call-world, call-sound, call-needs, call-protos}
 use Rattle.hc_objects.proofs.Shown.{fast-has}
 use Rattle.hc_objects.proofs.objects.Objects.link_shared.Goals as goal
 

@@ -1,4 +1,4 @@
-use Rattle.std.proofs.Common.{◌≡◌, ◌∙◌, ◌<◌, ℕ, None, Some, length, refl, ap, sym, subst}
+use Rattle.std.proofs.Common.{◌≡◌, ◌∙◌, ◌<◌, None, length, refl, ap, sym, subst}
 use Rattle.hc_heap.specs.Writes.{Trail}
 use Rattle.hc_heap.specs.Readings.{map_in, root_in}
 use Rattle.hc_heap.specs.Frames.{goes-on}
