@@ -1,6 +1,6 @@
 -- A command that is answered made one change at most, and no mere move.
 use Rattle.std.proofs.Common.{ℕ, Bool, true, false, Option, Some, None, length}
-use Rattle.std.specs.Prelude.{◌&&◌, ◌==◌, if◌then◌else◌}
+use Rattle.std.specs.Prelude.{◌==◌, if◌then◌else◌}
 use Rattle.hc_value.specs.Attrs.{is_read_only}
 use Rattle.hc_value.specs.declared.attrs.Attrs.{Attrs}
 use Rattle.hc_value.specs.declared.prop.Held.{Held}
@@ -8,7 +8,7 @@ use Rattle.hc_value.specs.declared.prop.Held.TheVariants.{Datum, Pair}
 use Rattle.hc_value.specs.declared.prop.PropDesc.{PropDesc}
 use Rattle.hc_value.specs.declared.value.Value.{Value}
 use Rattle.hc_table.specs.Attributes.{is_dont_delete}
-use Rattle.hc_table.specs.Changes.{Did, Nothing, Created, reaches}
+use Rattle.hc_table.specs.Changes.{Did, reaches}
 use Rattle.hc_table.specs.Kept.{Kept as Tables}
 use Rattle.hc_table.specs.World.{World, object, props_at, place_of}
 use Rattle.hc_ops.specs.Act.{Act}

@@ -1,5 +1,5 @@
 -- What the lines of a run hand out, and which objects they leave slow for want of room.
-use Rattle.std.proofs.Common.{◌≡◌, ℕ, ◌+◌, ◌≤◌, List, [], ◌∷◌, ◌++◌, length, Option, Some, None, IfSome, sym, ap, ◌∙◌, subst, arith, length-append}
+use Rattle.std.proofs.Common.{◌≡◌, ℕ, ◌+◌, ◌≤◌, List, [], ◌∷◌, ◌++◌, length, Option, Some, None, IfSome, sym, ap, subst, arith, length-append}
 use Rattle.std.specs.Prelude.{⊤}
 use Rattle.hc_table.specs.Changes.{Did}
 use Rattle.hc_objects.specs.Came.{Came}
@@ -58,8 +58,7 @@ run_spends law start place before taken ahead now stands so_far =
 -- and a command whose reply failed
 pub partly_spends : SpendLittle → (start : Place) (before taken : Option (List ℕ)) (at after : Position) (state new : State) (ahead ahead_now now later : Option (List ℕ)) (command : Command) → Stands start.state → Progress start before taken (record { at = at; state = state }) ahead now → TakesCommand at ahead command after ahead_now → AnswersPartly state after.names command new now later → SpendsLines before start.state new
 partly_spends law start before taken at after state new ahead ahead_now now later command stands so_far took answered =
-    let lines = so_far.lines ++ (took.passed ++ took.line ∷ []) in
-    (
+    let lines = so_far.lines ++ (took.passed ++ took.line ∷ []) in (
       length lines,
       taken_few before ahead_now lines (takes_both before ahead ahead_now so_far.lines (took.passed ++ took.line ∷ []) so_far.took took.taken),
       lines_spend law lines start (record { at = after; state = new }) (so_far.text ++ reply_line after.names answered.reply) stands
