@@ -42,20 +42,20 @@ same_refusal law state bytes text end m n word what until first =
     ]
 
 -- the first refused line ends the run, or something came before it
-first_refused : OneMeaning → (state : State) (bytes : List ℕ) (left taken now : Option (List ℕ)) (status : Status) (reads reads_now writes writes_now : ℕ) → WritesReplay (the_first_place state) (Some bytes) left taken status now → (status ≡ ReadFault → Rose reads reads_now) → (status ≡ WriteFault → Rose writes writes_now) → (n : ℕ) (what : What) → IsFirstRefused bytes n what → (status ≡ BadScript n what) ⊎ IsCutShort status reads reads_now writes writes_now
-first_refused law state bytes left taken now Done reads reads_now writes writes_now written read write n what first =
-    absurd (done_unrefused law state bytes left written.0 written.1 n what written.2 first)
-first_refused law state bytes left taken now BadWords reads reads_now writes writes_now written read write n what first = absurd written
-first_refused law state bytes left taken now (BadScript m word) reads reads_now writes writes_now written read write n what first =
-    inl (same_refusal law state bytes written.0 written.1 m n word what written.2 first)
-first_refused law state bytes left taken now ReadFault reads reads_now writes writes_now written read write n what first = inr (inr (inl (read refl)))
-first_refused law state bytes left taken now WriteFault reads reads_now writes writes_now written read write n what first = inr (inr (inr (write refl)))
-first_refused law state bytes left taken now Memory reads reads_now writes writes_now written read write n what first = inr (inl refl)
+first_refused : OneMeaning → (state new : State) (bytes : List ℕ) (left taken now : Option (List ℕ)) (status : Status) (reads reads_now writes writes_now : ℕ) → WritesReplay (the_first_place state) (Some bytes) left new taken status now → (status ≡ ReadFault → Rose reads reads_now) → (status ≡ WriteFault → Rose writes writes_now) → (n : ℕ) (what : What) → IsFirstRefused bytes n what → (status ≡ BadScript n what) ⊎ IsCutShort status reads reads_now writes writes_now
+first_refused law state new bytes left taken now Done reads reads_now writes writes_now written read write n what first =
+    absurd (done_unrefused law state bytes left written.0 written.1 n what written.3 first)
+first_refused law state new bytes left taken now BadWords reads reads_now writes writes_now written read write n what first = absurd written
+first_refused law state new bytes left taken now (BadScript m word) reads reads_now writes writes_now written read write n what first =
+    inl (same_refusal law state bytes written.0 written.1 m n word what written.3 first)
+first_refused law state new bytes left taken now ReadFault reads reads_now writes writes_now written read write n what first = inr (inr (inl (read refl)))
+first_refused law state new bytes left taken now WriteFault reads reads_now writes writes_now written read write n what first = inr (inr (inr (write refl)))
+first_refused law state new bytes left taken now Memory reads reads_now writes writes_now written read write n what first = inr (inl refl)
 
-pub refused_told : OneMeaning → (state : State) (source left taken now : Option (List ℕ)) (status : Status) (reads reads_now writes writes_now : ℕ) → WritesReplay (the_first_place state) source left taken status now → (status ≡ ReadFault → Rose reads reads_now) → (status ≡ WriteFault → Rose writes writes_now) → IfSome source (λ bytes. (n : ℕ) (what : What) → IsFirstRefused bytes n what → (status ≡ BadScript n what) ⊎ IsCutShort status reads reads_now writes writes_now)
-refused_told law state None left taken now status reads reads_now writes writes_now written read write = tt
-refused_told law state (Some bytes) left taken now status reads reads_now writes writes_now written read write =
-    first_refused law state bytes left taken now status reads reads_now writes writes_now written read write
+pub refused_told : OneMeaning → (state new : State) (source left taken now : Option (List ℕ)) (status : Status) (reads reads_now writes writes_now : ℕ) → WritesReplay (the_first_place state) source left new taken status now → (status ≡ ReadFault → Rose reads reads_now) → (status ≡ WriteFault → Rose writes writes_now) → IfSome source (λ bytes. (n : ℕ) (what : What) → IsFirstRefused bytes n what → (status ≡ BadScript n what) ⊎ IsCutShort status reads reads_now writes writes_now)
+refused_told law state new None left taken now status reads reads_now writes writes_now written read write = tt
+refused_told law state new (Some bytes) left taken now status reads reads_now writes writes_now written read write =
+    first_refused law state new bytes left taken now status reads reads_now writes writes_now written read write
 
 -- where each line is accepted none is refused
 accepted_unrefused : OneMeaning → (state : State) (bytes text : List ℕ) (end : Place) (n : ℕ) (what : What) → AnswersUntilRefused (the_first_place state) (Some bytes) text end n what → AreAllAccepted bytes → ⊥
@@ -63,16 +63,16 @@ accepted_unrefused law state bytes text end n what until all =
     none_refused_among law the_start all.0 end.at until.lines until.refused.1 until.refused.0 what
     (rw (sym until.refused.2) all.1) (answered_accepted (the_first_place state) end until.lines text until.answers) until.refused.3
 
-all_accepted : OneMeaning → (state : State) (bytes : List ℕ) (left taken now : Option (List ℕ)) (status : Status) (reads reads_now writes writes_now : ℕ) → WritesReplay (the_first_place state) (Some bytes) left taken status now → (status ≡ ReadFault → Rose reads reads_now) → (status ≡ WriteFault → Rose writes writes_now) → AreAllAccepted bytes → (status ≡ Done) ⊎ IsCutShort status reads reads_now writes writes_now
-all_accepted law state bytes left taken now Done reads reads_now writes writes_now written read write all = inl refl
-all_accepted law state bytes left taken now BadWords reads reads_now writes writes_now written read write all = absurd written
-all_accepted law state bytes left taken now (BadScript n what) reads reads_now writes writes_now written read write all =
-    absurd (accepted_unrefused law state bytes written.0 written.1 n what written.2 all)
-all_accepted law state bytes left taken now ReadFault reads reads_now writes writes_now written read write all = inr (inr (inl (read refl)))
-all_accepted law state bytes left taken now WriteFault reads reads_now writes writes_now written read write all = inr (inr (inr (write refl)))
-all_accepted law state bytes left taken now Memory reads reads_now writes writes_now written read write all = inr (inl refl)
+all_accepted : OneMeaning → (state new : State) (bytes : List ℕ) (left taken now : Option (List ℕ)) (status : Status) (reads reads_now writes writes_now : ℕ) → WritesReplay (the_first_place state) (Some bytes) left new taken status now → (status ≡ ReadFault → Rose reads reads_now) → (status ≡ WriteFault → Rose writes writes_now) → AreAllAccepted bytes → (status ≡ Done) ⊎ IsCutShort status reads reads_now writes writes_now
+all_accepted law state new bytes left taken now Done reads reads_now writes writes_now written read write all = inl refl
+all_accepted law state new bytes left taken now BadWords reads reads_now writes writes_now written read write all = absurd written
+all_accepted law state new bytes left taken now (BadScript n what) reads reads_now writes writes_now written read write all =
+    absurd (accepted_unrefused law state bytes written.0 written.1 n what written.3 all)
+all_accepted law state new bytes left taken now ReadFault reads reads_now writes writes_now written read write all = inr (inr (inl (read refl)))
+all_accepted law state new bytes left taken now WriteFault reads reads_now writes writes_now written read write all = inr (inr (inr (write refl)))
+all_accepted law state new bytes left taken now Memory reads reads_now writes writes_now written read write all = inr (inl refl)
 
-pub accepted_told : OneMeaning → (state : State) (source left taken now : Option (List ℕ)) (status : Status) (reads reads_now writes writes_now : ℕ) → WritesReplay (the_first_place state) source left taken status now → (status ≡ ReadFault → Rose reads reads_now) → (status ≡ WriteFault → Rose writes writes_now) → IfSome source (λ bytes. AreAllAccepted bytes → (status ≡ Done) ⊎ IsCutShort status reads reads_now writes writes_now)
-accepted_told law state None left taken now status reads reads_now writes writes_now written read write = tt
-accepted_told law state (Some bytes) left taken now status reads reads_now writes writes_now written read write =
-    all_accepted law state bytes left taken now status reads reads_now writes writes_now written read write
+pub accepted_told : OneMeaning → (state new : State) (source left taken now : Option (List ℕ)) (status : Status) (reads reads_now writes writes_now : ℕ) → WritesReplay (the_first_place state) source left new taken status now → (status ≡ ReadFault → Rose reads reads_now) → (status ≡ WriteFault → Rose writes writes_now) → IfSome source (λ bytes. AreAllAccepted bytes → (status ≡ Done) ⊎ IsCutShort status reads reads_now writes writes_now)
+accepted_told law state new None left taken now status reads reads_now writes writes_now written read write = tt
+accepted_told law state new (Some bytes) left taken now status reads reads_now writes writes_now written read write =
+    all_accepted law state new bytes left taken now status reads reads_now writes writes_now written read write

@@ -20,26 +20,27 @@ AskForReplay words = words ≡ codes "replay" ∷ []
 abbrev pub the_first_place : State → Place
 the_first_place state = record { at = the_start; state = state }
 
--- a text that some end of the run would have written whole: the replies so far, with or without a fault line
-abbrev pub MayWrite : Place → Option (List ℕ) → List ℕ → Type 0
-MayWrite start before whole = (text : List ℕ) × (end : Place) × (
+-- a text that some end of the run, in this state, would have written whole: the replies so far, with or without a fault line
+abbrev pub MayWrite : Place → Option (List ℕ) → State → List ℕ → Type 0
+MayWrite start before state whole = (text : List ℕ) × (end : Place) × (end.state ≡ state) × (
     (AnswersSome start before text end × ((whole ≡ text) ⊎ (whole ≡ text ++ read_line)))
     ⊎ ((n : ℕ) × (what : What) × AnswersUntilRefused start before text end n what × (whole ≡ text ++ refusal_line n what)))
 
--- what was written by a replay that ended so
-abbrev pub WritesReplay : Place → Option (List ℕ) → Option (List ℕ) → Option (List ℕ) → Status → Option (List ℕ) → Type 0
-WritesReplay start before now taken Done taken_now =
-    (text : List ℕ) × (end : Place) × AnswersAll start before now text end × AppendsBytes taken text taken_now
-WritesReplay start before now taken BadWords taken_now = ⊥
-WritesReplay start before now taken (BadScript n what) taken_now =
-    (text : List ℕ) × (end : Place) × AnswersUntilRefused start before text end n what
+-- what was written by a replay that ended so, and left this state
+abbrev pub WritesReplay : Place → Option (List ℕ) → Option (List ℕ) → State → Option (List ℕ) → Status → Option (List ℕ) → Type 0
+WritesReplay start before now state taken Done taken_now =
+    (text : List ℕ) × (end : Place) × (end.state ≡ state) × AnswersAll start before now text end × AppendsBytes taken text taken_now
+WritesReplay start before now state taken BadWords taken_now = ⊥
+WritesReplay start before now state taken (BadScript n what) taken_now =
+    (text : List ℕ) × (end : Place) × (end.state ≡ state) × AnswersUntilRefused start before text end n what
     × AppendsBytes taken (text ++ refusal_line n what) taken_now
-WritesReplay start before now taken ReadFault taken_now =
-    (text : List ℕ) × (end : Place) × AnswersUntilFault start before now text end × AppendsBytes taken (text ++ read_line) taken_now
-WritesReplay start before now taken WriteFault taken_now =
-    (whole : List ℕ) × MayWrite start before whole × AppendsPrefix taken whole taken_now
-WritesReplay start before now taken Memory taken_now =
-    (whole : List ℕ) × MayWrite start before whole × AppendsPrefix taken whole taken_now
+WritesReplay start before now state taken ReadFault taken_now =
+    (text : List ℕ) × (end : Place) × (end.state ≡ state) × AnswersUntilFault start before now text end
+    × AppendsBytes taken (text ++ read_line) taken_now
+WritesReplay start before now state taken WriteFault taken_now =
+    (whole : List ℕ) × MayWrite start before state whole × AppendsPrefix taken whole taken_now
+WritesReplay start before now state taken Memory taken_now =
+    (whole : List ℕ) × (last : State) × MayWrite start before last whole × AppendsPrefix taken whole taken_now
 
 -- what was written where the words ask for nothing that is known
 abbrev pub WritesUsage : Option (List ℕ) → Status → Option (List ℕ) → Type 0

@@ -25,7 +25,7 @@ pub fn replay<S: Source, K: Sink>(
 
     // What is written: the replies of a run over the lines, and the line of a fault; or the usage.
     ensures written { AskForReplay (map string_bytes words.now) → WritesReplay (the_first_place session.old.state)
-        (S.left source.old) (S.left source.new) (K.taken sink.old) result (K.taken sink.new) }
+        (S.left source.old) (S.left source.new) session.new.state (K.taken sink.old) result (K.taken sink.new) }
     ensures usage { (AskForReplay (map string_bytes words.now) → ⊥) → WritesUsage (K.taken sink.old) result (K.taken sink.new) }
 
     // The first line that is refused ends the run by its number and word, or a fault or want of memory came before.
@@ -58,7 +58,7 @@ fn replay_words<S: Source, K: Sink>(
 ) -> Status
     requires { session.old.fresh ≡ true }
     ensures written { AskForReplay (map string_bytes words.now) → WritesReplay (the_first_place session.old.state)
-        (S.left source.old) (S.left source.new) (K.taken sink.old) result (K.taken sink.new) }
+        (S.left source.old) (S.left source.new) session.new.state (K.taken sink.old) result (K.taken sink.new) }
     ensures usage { (AskForReplay (map string_bytes words.now) → ⊥) → WritesUsage (K.taken sink.old) result (K.taken sink.new) }
     ensures spent { AskForReplay (map string_bytes words.now) → (result ≡ Status.Memory)
         ⊎ SpendsLines (S.left source.old) session.old.state session.new.state }
@@ -115,7 +115,7 @@ fn replay_lines<S: Source, K: Sink>(
     requires reader { reader.old ≡ the_new_reader }
     requires world { session.old.state.world ≡ [] }
     ensures written { WritesReplay (the_first_place session.old.state)
-        (S.left source.old) (S.left source.new) (K.taken sink.old) result (K.taken sink.new) }
+        (S.left source.old) (S.left source.new) session.new.state (K.taken sink.old) result (K.taken sink.new) }
     ensures spent { (result ≡ Status.Memory) ⊎ SpendsLines (S.left source.old) session.old.state session.new.state }
     ensures read { result ≡ Status.ReadFault → Rose (S.faults source.old) (S.faults source.new) }
     ensures write { result ≡ Status.WriteFault → Rose (K.faults sink.old) (K.faults sink.new) }

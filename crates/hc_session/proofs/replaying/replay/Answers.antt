@@ -11,7 +11,7 @@ returns-clause-refused g c asked =
       passed_or_refused = c.lines_have_one_meaning.ensures.passed_or_refused;
       asked_or_refused = c.lines_have_one_meaning.ensures.asked_or_refused;
     } in
-    refused_told law _ _ _ _ _ _ _ _ _ _ (c.replay_words.ensures.written asked) c.replay_words.ensures.read c.replay_words.ensures.write
+    refused_told law _ _ _ _ _ _ _ _ _ _ _ (c.replay_words.ensures.written asked) c.replay_words.ensures.read c.replay_words.ensures.write
 
 pub returns-clause-complete : goal.returns-clause-complete
 returns-clause-complete g c asked =
@@ -22,4 +22,4 @@ returns-clause-complete g c asked =
       passed_or_refused = c.lines_have_one_meaning.ensures.passed_or_refused;
       asked_or_refused = c.lines_have_one_meaning.ensures.asked_or_refused;
     } in
-    accepted_told law _ _ _ _ _ _ _ _ _ _ (c.replay_words.ensures.written asked) c.replay_words.ensures.read c.replay_words.ensures.write
+    accepted_told law _ _ _ _ _ _ _ _ _ _ _ (c.replay_words.ensures.written asked) c.replay_words.ensures.read c.replay_words.ensures.write

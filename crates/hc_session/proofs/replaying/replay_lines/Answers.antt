@@ -32,7 +32,7 @@ commands-preserved g c =
 
 pub returns-in-Err-Memory-clause-written : goal.returns-in-Err-Memory-clause-written
 returns-in-Err-Memory-clause-written g c =
-    rw (c.in-Err-Memory.ensures.memory (rw c.in-Err-Memory.field-0-is refl)) (ends_memory _ _ _ (g.S.Source.left c.next.new.source) _ _ _ c.commands.invariant.progress)
+    rw (c.in-Err-Memory.ensures.memory (rw c.in-Err-Memory.field-0-is refl)) (ends_memory _ _ _ (g.S.Source.left c.next.new.source) _ _ _ c.args.session.now.state c.commands.invariant.progress)
 
 pub returns-in-Err-Write-clause-written : goal.returns-in-Err-Write-clause-written
 returns-in-Err-Write-clause-written g c =
