@@ -1,37 +1,35 @@
 -- A new object comes to the root of its prototype, or of null, which is made where there is none.
-use Rattle.std.proofs.Common.{◌≡◌, ℕ, ◌<◌, Bool, true, false, cond, eqb, eqb-true, eq-eqb, true≢false, List, ◌∷◌, Option, Some, None, IfSome, length, set, refl, sym, ap, ◌∙◌, subst, arith}
+use Rattle.std.proofs.Common.{◌≡◌, ℕ, ◌<◌, Bool, true, false, cond, eqb, eqb-true, eq-eqb, true≢false, List, Option, Some, None, IfSome, length, set, refl, sym, ap, ◌∙◌, subst, arith}
 use Rattle.std.proofs.lemmas.List.{length-set}
-use Rattle.std.specs.Prelude.{IsSomeAnd, IsTrue, Result, Ok}
+use Rattle.std.specs.Prelude.{IsSomeAnd, IsTrue}
 use Rattle.hc_layout.specs.declared.shape.Region.TheVariants.{Maps}
 use Rattle.hc_layout.specs.declared.shape.Shape.{Shape}
 use Rattle.hc_layout.specs.declared.words.GateWord.{GateWord}
 use Rattle.hc_layout.specs.declared.words.RootWord.{RootWord}
 use Rattle.hc_layout.specs.declared.words.StoreWord.{StoreWord}
 use Rattle.hc_heap.specs.Writes.{Trail, ObjectMap}
-use Rattle.hc_heap.specs.Readings.{gate_in, parent_in, prototype_in, bits_in, map_in, root_in, store_in}
+use Rattle.hc_heap.specs.Readings.{gate_in, bits_in, map_in, root_in, store_in}
 use Rattle.hc_heap.specs.Lawful.{LawfulObjectMap, HoldsEntries}
 use Rattle.hc_heap.specs.Kept.{Adds, DetailsRise, UnusedSaysNothing}
 use Rattle.hc_heap.specs.Frames.{adds-none, adds-on, goes-on-of}
-use Rattle.hc_heap.specs.States.{View, HeapState, IsHeap, with_write}
-use Rattle.hc_heap.specs.declared.space.Space.{Space}
+use Rattle.hc_heap.specs.States.{View, IsHeap, with_write}
 use Rattle.hc_descs.specs.Entries.{entries_in}
-use Rattle.hc_tree.specs.Growth.{IsStill, IsUnmoved, root_of, root_need, with_named_root, of_null_after}
+use Rattle.hc_tree.specs.Growth.{root_of, root_need}
 use Rattle.hc_tree.specs.Kept.{MapsAreKept, TreesStay}
 use Rattle.hc_tree.specs.Needs.{with_need}
-use Rattle.hc_tree.specs.Tree.{IsRoot, IsTree, gate_with}
+use Rattle.hc_tree.specs.Tree.{gate_with}
 use Rattle.hc_table.specs.World.{Object, new_object, object}
 use Rattle.hc_objects.specs.Changes.{Touches, Changed, IsWell}
-use Rattle.hc_objects.specs.Creating.{IsRooted, rooted, null_after}
 use Rattle.hc_objects.specs.Listed.{listed}
 use Rattle.hc_objects.specs.Meaning.{Dictionary, is_extensible, kept_of, object_shown, prop_in, proto_of, world}
 use Rattle.hc_objects.specs.State.{AreHandedOut, AreRoots, IsIn, IsObjects}
 use Rattle.hc_objects.proofs.Items.{kept-set, kept-set_here}
 use Rattle.hc_objects.proofs.Left.{set-object}
 use Rattle.hc_objects.proofs.Owning.{open-used}
-use Rattle.hc_objects.proofs.Rising.{some-of}
-use Rattle.hc_objects.proofs.Sound.{is-later, others-same, some-is, sound-after, still-out, tables-after}
-use Rattle.hc_objects.proofs.Sparing.{named-stays}
-use Rattle.hc_objects.proofs.Staying.{IsLater, proto-stays}
+use Rattle.hc_objects.proofs.Rising.{not-both}
+use Rattle.hc_objects.proofs.Rooted.{IsRooted, rooted, rooted-roots}
+use Rattle.hc_objects.proofs.Sound.{is-later, others-same, roots-stay, some-is, sound-after, still-out, tables-after}
+use Rattle.hc_objects.proofs.Staying.{IsLater, later}
 use Rattle.hc_objects.proofs.Steps.{move-tree}
 use Rattle.hc_objects.proofs.Touching.{map-moved, root-made}
 use Rattle.hc_objects.proofs.Worlds.{length-world, world-set}
@@ -61,34 +59,8 @@ rooted-proto t r q proto (Some m) = refl
 rooted-proto t r q (Some p) None = named-proto t p q r (eqb p q) refl
 rooted-proto t r q None None = refl
 
--- no other map is opened
-opened : (t : Trail) (r m : ℕ) (g : GateWord) → gate_in t m ≡ None → (b : Bool) → eqb r m ≡ b → cond b (Some (gate_with 0 false)) (gate_in t m) ≡ Some g → m ≡ r
-opened t r m g none true is e = sym (eqb-true r m is)
-opened t r m g none false is e = let n : None ≡ Some g = sym none ∙ e in let f : ⊥ = cc in absurd f
-
-rooted-opens : (t : Trail) (r m : ℕ) (proto x : Option ℕ) (g : GateWord) → gate_in t m ≡ None → gate_in (rooted x t proto r) m ≡ Some g → m ≡ r
-rooted-opens t r m proto (Some y) g none e = let n : None ≡ Some g = sym none ∙ e in let f : ⊥ = cc in absurd f
-rooted-opens t r m (Some p) None g none e = opened t r m g none (eqb r m) refl e
-rooted-opens t r m None None g none e = opened t r m g none (eqb r m) refl e
-
--- the root is the one that its prototype names
-rooted-named : (t : Trail) (r : ℕ) (proto null x : Option ℕ) → root_of t proto null ≡ x → ((m : ℕ) → x ≡ Some m → r ≡ m) → root_of (rooted x t proto r) proto (null_after x proto null r) ≡ Some r
-rooted-named t r proto null (Some m) is found = is ∙ ap (λ (y : ℕ). Some y) (sym (found m refl))
-rooted-named t r (Some p) null None is found = ap (λ (b : Bool). let w : RootWord = record { is_proto = (root_in t p).is_proto; map = Some r } in (cond b w (root_in t p)).map) (eq-eqb p p refl)
-rooted-named t r None null None is found = refl
-
--- and the root of null stays, where there was one
-rooted-null : (t : Trail) (r m : ℕ) (proto null x : Option ℕ) → root_of t proto null ≡ x → null ≡ Some m → null_after x proto null r ≡ Some m
-rooted-null t r m proto null (Some y) is e = e
-rooted-null t r m (Some p) null None is e = e
-rooted-null t r m None null None is e = let n : None ≡ Some m = sym is ∙ e in let f : ⊥ = cc in absurd f
-
-root-moved : (t : Trail) (o : ℕ) (h proto null : Option ℕ) → root_of (ObjectMap o h ∷ t) proto null ≡ root_of t proto null
-root-moved t o h (Some p) null = refl
-root-moved t o h None null = refl
-
 module _ (maps : MapsAreKept) (details : DetailsRise) (trees : TreesStay) (unused : UnusedSaysNothing) (v w : View) (kept : List (Option Dictionary)) (null then_null proto : Option ℕ) (o r : ℕ)
-    (h : IsObjects v kept null) (it : IsRooted v w proto null then_null r) (none : map_in v.trail o ≡ None) (shared : (root_in v.trail o).is_proto ≡ false) where
+    (h : IsObjects v kept null) (it : IsRooted v w null then_null proto r) (none : map_in v.trail o ≡ None) (shared : (root_in v.trail o).is_proto ≡ false) where
   w-map : map_in w.trail o ≡ None
   w-map = ap (λ (t : Trail). map_in t o) it.trail ∙ rooted-map v.trail r o proto (root_of v.trail proto null) ∙ none
 
@@ -98,13 +70,13 @@ module _ (maps : MapsAreKept) (details : DetailsRise) (trees : TreesStay) (unuse
   -- the object may get the root
   pub enter-lawful : LawfulObjectMap w.shape w.trail o (Some r)
   enter-lawful =
-      let lt = open-used unused w it.heap r (gate_with 0 false) it.is_root.gate in
+      let lt = open-used unused w it.heap r (gate_with 0 false) it.root.gate in
       let most = it.heap.most Maps in
       record {
         leaves = subst (λ (x : Option ℕ). IfSome x (λ m. IsTrue (bits_in w.trail m).unstable)) (sym w-map) tt;
         gets = record {
           there = omega (arith, lt, most);
-          filled = subst (λ (g : Option GateWord). IsSomeAnd g (λ x. HoldsEntries w.trail o r x)) (sym it.is_root.gate) (record { capacity = omega arith; slots = λ k lt. absurd (omega arith) });
+          filled = subst (λ (g : Option GateWord). IsSomeAnd g (λ x. HoldsEntries w.trail o r x)) (sym it.root.gate) (record { capacity = omega arith; slots = λ k lt. absurd (omega arith) });
           own = λ on. absurd (true≢false (sym on ∙ w-proto o ∙ shared));
         };
       }
@@ -151,7 +123,7 @@ module _ (maps : MapsAreKept) (details : DetailsRise) (trees : TreesStay) (unuse
         gate = gate_with 0 false;
         is_map = has-it;
         fast = record {
-          is_open = it.is_root.gate;
+          is_open = it.root.gate;
           holds = record { capacity = omega arith; slots = λ k lt. absurd (omega arith) };
           private = sym (enter-proto o ∙ shared);
         };
@@ -160,51 +132,22 @@ module _ (maps : MapsAreKept) (details : DetailsRise) (trees : TreesStay) (unuse
       owns = λ s owns lt. subst (λ (x : StoreWord). IsIn x s) store-same owns;
       alone = λ p m g other is was gate.
           let same : r ≡ m = some-is r m (sym has-it ∙ is) in
-          let gates : gate_with 0 false ≡ g = some-is (gate_with 0 false) g (sym it.is_root.gate ∙ ap (gate_in w.trail) same ∙ gate) in
+          let gates : gate_with 0 false ≡ g = some-is (gate_with 0 false) g (sym it.root.gate ∙ ap (gate_in w.trail) same ∙ gate) in
           sym (ap (λ (x : GateWord). x.is_private) gates);
     }
 
     value : object_shown new.trail o None (map_in new.trail o) ≡ new_object proto
     value =
         ap (λ (m : Option ℕ). object_shown new.trail o None m) has-it
-        ∙ ap (λ (p : Option (Option ℕ)). let x : Object = record { proto = proto_of p; extensible = is_extensible (gate_in new.trail r); props = listed (prop_in new.trail o r) (entries_in (gate_in new.trail r)) } in x) it.is_root.prototype
-        ∙ ap (λ (g : Option GateWord). let x : Object = record { proto = proto; extensible = is_extensible g; props = listed (prop_in new.trail o r) (entries_in g) } in x) it.is_root.gate
+        ∙ ap (λ (p : Option (Option ℕ)). let x : Object = record { proto = proto_of p; extensible = is_extensible (gate_in new.trail r); props = listed (prop_in new.trail o r) (entries_in (gate_in new.trail r)) } in x) it.root.prototype
+        ∙ ap (λ (g : Option GateWord). let x : Object = record { proto = proto; extensible = is_extensible g; props = listed (prop_in new.trail o r) (entries_in g) } in x) it.root.gate
 
     -- roots stay the ones that are named, where one was made at most
     roots : AreRoots new.trail then_null
-    roots = record {
-      null = moved then_null it.null_root;
-      named = λ m g p gate shared parent prototype. by m g p gate shared parent prototype (gate_in v.trail m) refl;
-    }
-      where
-        moved : (x : Option ℕ) → IfSome x (λ m. IsRoot w.trail None m) → IfSome x (λ m. IsRoot new.trail None m)
-        moved (Some m) is = record { gate = is.gate; parent = is.parent; prototype = is.prototype }
-        moved None is = tt
-
-        here : root_of new.trail proto then_null ≡ Some r
-        here =
-            root-moved w.trail o (Some r) proto then_null
-            ∙ ap (λ (t : Trail). root_of t proto then_null) it.trail
-            ∙ ap (λ (n : Option ℕ). root_of (rooted (root_of v.trail proto null) v.trail proto r) proto n) it.named
-            ∙ rooted-named v.trail r proto null (root_of v.trail proto null) refl it.found
-
-        still : (p : Option ℕ) (m : ℕ) → root_of v.trail p null ≡ Some m → root_of new.trail p then_null ≡ Some m
-        still None m is = it.named ∙ rooted-null v.trail r m proto null (root_of v.trail proto null) refl is
-        still (Some q) m is = named-stays v new.trail o q m changed.writes is
-
-        made : (p : Option ℕ) (m : ℕ) → m ≡ r → prototype_in new.trail m ≡ Some p → root_of new.trail p then_null ≡ Some m
-        made p m same is =
-            let both : proto ≡ p = some-is proto p (sym it.is_root.prototype ∙ ap (prototype_in new.trail) (sym same) ∙ is) in
-            ap (λ (q : Option ℕ). root_of new.trail q then_null) (sym both) ∙ here ∙ ap (λ (y : ℕ). Some y) (sym same)
-
-        by : (m : ℕ) (g : GateWord) (p : Option ℕ) → gate_in new.trail m ≡ Some g → g.is_private ≡ false → parent_in new.trail m ≡ Some None → prototype_in new.trail m ≡ Some p → (was : Option GateWord) → gate_in v.trail m ≡ was → root_of new.trail p then_null ≡ Some m
-        by m g p gate shared parent prototype None is =
-            made p m (rooted-opens v.trail r m proto (root_of v.trail proto null) g is (ap (λ (t : Trail). gate_in t m) (sym it.trail) ∙ gate)) prototype
-        by m g p gate shared parent prototype (Some k) is =
-            let same : k ≡ g = some-is k g (sym (after.maps.written.gate m k is) ∙ gate) in
-            let up = some-of (parent_in v.trail m) (after.maps.opened m k is).parent in
-            let like = proto-stays v.trail new.trail after m k is in
-            still p m (h.roots.named m k p is (ap (λ (x : GateWord). x.is_private) same ∙ shared) (up.1 ∙ sym (after.maps.written.parent m up.0 up.1) ∙ parent) (sym like ∙ prototype))
+    roots =
+        let writes = map-moved w o w.trail (Some r) in
+        let on : IsLater w.trail new.trail = later maps details w.shape w.trail new.trail it.heap.lawful (goes-on-of w.shape writes heap.lawful) in
+        roots-stay w new.trail o then_null on writes (λ m g none is shared parent. not-both (gate_in w.trail m) g none is) (rooted-roots v w null then_null proto r it h.roots)
 
     module _ (there : o < length kept) (is : object (world v.trail kept) o ≡ new_object proto) where
       then-world : set (world v.trail kept) o (new_object proto) ≡ world v.trail kept
@@ -228,33 +171,3 @@ module _ (maps : MapsAreKept) (details : DetailsRise) (trees : TreesStay) (unuse
           (subst (λ (i : Option Dictionary). IsWell v new i o) (sym item-is) well)
           roots
           (tables-after v new kept (set kept o None) (world v.trail kept) changed.shape enter-world h.sound)
-
--- What the root of the tree says
-
-ok-is : (r m : ℕ) → (let x : Result ℕ Space = Ok r in x ≡ Ok m) → r ≡ m
-ok-is r m e = cc
-
-pub rooted-by : {P : Type 0} (a b : HeapState P) (proto null then_null : Option ℕ) (r : ℕ) → IsRoot b.view.trail proto r → ((m : ℕ) → root_of a.view.trail proto null ≡ Some m → (let x : Result ℕ Space = Ok r in x ≡ Ok m))
-    → b.view.used ≡ with_need (root_need (root_of a.view.trail proto null)) a.view.used
-    → (IsStill (root_of a.view.trail proto null) (Ok r) → IsUnmoved a b) → (IsStill (root_of a.view.trail proto null) (Ok r) → then_null ≡ null)
-    → (root_of a.view.trail proto null ≡ None → b.view.trail ≡ with_named_root a.view.trail proto r) → (root_of a.view.trail proto null ≡ None → then_null ≡ of_null_after proto null r)
-    → IfSome then_null (λ m. IsRoot b.view.trail None m) → b.view.shape ≡ a.view.shape → IsTree b.view.trail → IsHeap b.view → IsRooted a.view b.view proto null then_null r
-rooted-by {P} a b proto null then_null r is_root found used still null_still made null_made null_root shape tree heap =
-    let both = by (root_of a.view.trail proto null) refl in
-    record {
-      is_root = is_root;
-      found = λ m e. ok-is r m (found m e);
-      trail = both.0;
-      named = both.1;
-      null_root = null_root;
-      used = used;
-      shape = shape;
-      tree = tree;
-      heap = heap;
-    }
-  where
-    by : (x : Option ℕ) → root_of a.view.trail proto null ≡ x → (b.view.trail ≡ rooted x a.view.trail proto r) × (then_null ≡ null_after x proto null r)
-    by (Some m) e =
-        let there : IsStill (root_of a.view.trail proto null) (Ok r) = subst (λ (x : Option ℕ). IsStill x (Ok r)) (sym e) tt in
-        (ap (λ (s : HeapState P). s.view.trail) (still there), null_still there)
-    by None e = (made e, null_made e)

@@ -17,11 +17,21 @@ use Rattle.hc_objects.specs.Modes.{walk_need}
 use Rattle.hc_objects.proofs.Sound.{same-or, some-is}
 use Rattle.hc_objects.proofs.Sparing.{cond-other}
 
+-- the trail after the root was made, where there was none
+abbrev pub rooted : Option ℕ → Trail → Option ℕ → ℕ → Trail
+rooted (Some m) t proto r = t
+rooted None t proto r = with_named_root t proto r
+
+-- the root of null then
+abbrev pub null_after : Option ℕ → Option ℕ → Option ℕ → ℕ → Option ℕ
+null_after (Some m) proto null r = null
+null_after None proto null r = of_null_after proto null r
+
 -- the root was found or made
 pub record IsRooted (v w : View) (null then_null proto : Option ℕ) (r : ℕ) : Type 0 where
   pub root : IsRoot w.trail proto r
-  pub found : (x : ℕ) → root_of v.trail proto null ≡ Some x → (w ≡ v) × (then_null ≡ null)
-  pub made : root_of v.trail proto null ≡ None → (w.trail ≡ with_named_root v.trail proto r) × (then_null ≡ of_null_after proto null r)
+  pub trail : w.trail ≡ rooted (root_of v.trail proto null) v.trail proto r
+  pub named : then_null ≡ null_after (root_of v.trail proto null) proto null r
   pub null_root : IfSome then_null (λ x. IsRoot w.trail None x)
   pub used : w.used ≡ with_need (root_need (root_of v.trail proto null)) v.used
   pub shape : w.shape ≡ v.shape
@@ -33,18 +43,24 @@ pub is-rooted : {P : Type 0} (a b : HeapState P) (null then_null proto : Option 
     → (root_of a.view.trail proto null ≡ None → b.view.trail ≡ with_named_root a.view.trail proto r) → (root_of a.view.trail proto null ≡ None → then_null ≡ of_null_after proto null r)
     → IfSome then_null (λ x. IsRoot b.view.trail None x) → b.view.used ≡ with_need (root_need (root_of a.view.trail proto null)) a.view.used → b.view.shape ≡ a.view.shape → IsTree b.view.trail → IsHeap b.view
     → IsRooted a.view b.view null then_null proto r
-is-rooted {P} a b null then_null proto r root still null_still made null_made null_root used shape tree heap = record {
-  root = root;
-  found = λ x is.
-      let there : IsStill (root_of a.view.trail proto null) (Ok r) = subst (λ (f : Option ℕ). IsStill f (Ok r)) (sym is) tt in
-      (ap (λ (s : HeapState P). s.view) (still there), null_still there);
-  made = λ none. (made none, null_made none);
-  null_root = null_root;
-  used = used;
-  shape = shape;
-  tree = tree;
-  heap = heap;
-}
+is-rooted {P} a b null then_null proto r root still null_still made null_made null_root used shape tree heap =
+    let both = by (root_of a.view.trail proto null) refl in
+    record {
+      root = root;
+      trail = both.0;
+      named = both.1;
+      null_root = null_root;
+      used = used;
+      shape = shape;
+      tree = tree;
+      heap = heap;
+    }
+  where
+    by : (x : Option ℕ) → root_of a.view.trail proto null ≡ x → (b.view.trail ≡ rooted x a.view.trail proto r) × (then_null ≡ null_after x proto null r)
+    by (Some m) e =
+        let there : IsStill (root_of a.view.trail proto null) (Ok r) = subst (λ (x : Option ℕ). IsStill x (Ok r)) (sym e) tt in
+        (ap (λ (s : HeapState P). s.view.trail) (still there), null_still there)
+    by None e = (made e, null_made e)
 
 -- The writes
 
@@ -108,28 +124,34 @@ made-roots t proto null r none root null_root h = record {
 }
 
 module _ (v w : View) (null then_null proto : Option ℕ) (r : ℕ) (it : IsRooted v w null then_null proto r) where
+  trail-by : (was : Option ℕ) → root_of v.trail proto null ≡ was → w.trail ≡ rooted was v.trail proto r
+  trail-by was is = it.trail ∙ ap (λ (x : Option ℕ). rooted x v.trail proto r) is
+
+  null-by : (was : Option ℕ) → root_of v.trail proto null ≡ was → then_null ≡ null_after was proto null r
+  null-by was is = it.named ∙ ap (λ (x : Option ℕ). null_after x proto null r) is
+
   pub rooted-writes : Adds GrowsTree v.trail w.trail
   rooted-writes = by (root_of v.trail proto null) refl
     where
       by : (was : Option ℕ) → root_of v.trail proto null ≡ was → Adds GrowsTree v.trail w.trail
-      by (Some x) e = subst (λ (y : View). Adds GrowsTree v.trail y.trail) (sym (it.found x e).0) (adds-none v.trail)
-      by None e = subst (λ (t : Trail). Adds GrowsTree v.trail t) (sym (it.made e).0) (named-writes v.trail proto null r e)
+      by (Some x) e = subst (λ (t : Trail). Adds GrowsTree v.trail t) (sym (trail-by (Some x) e)) (adds-none v.trail)
+      by None e = subst (λ (t : Trail). Adds GrowsTree v.trail t) (sym (trail-by None e)) (named-writes v.trail proto null r e)
 
   pub rooted-roots : AreRoots v.trail null → AreRoots w.trail then_null
   rooted-roots h = by (root_of v.trail proto null) refl
     where
       by : (was : Option ℕ) → root_of v.trail proto null ≡ was → AreRoots w.trail then_null
       by (Some x) e =
-          let is = it.found x e in
-          subst (λ (y : View). AreRoots y.trail then_null) (sym is.0) (subst (λ (n : Option ℕ). AreRoots v.trail n) (sym is.1) h)
+          subst (λ (t : Trail). AreRoots t then_null) (sym (trail-by (Some x) e)) (subst (λ (n : Option ℕ). AreRoots v.trail n) (sym (null-by (Some x) e)) h)
       by None e =
-          let is = it.made e in
-          subst (λ (t : Trail). AreRoots t then_null) (sym is.0)
-          (subst (λ (n : Option ℕ). AreRoots (with_named_root v.trail proto r) n) (sym is.1)
+          let trail = trail-by None e in
+          let named = null-by None e in
+          subst (λ (t : Trail). AreRoots t then_null) (sym trail)
+          (subst (λ (n : Option ℕ). AreRoots (with_named_root v.trail proto r) n) (sym named)
           (made-roots v.trail proto null r e
-          (subst (λ (t : Trail). IsRoot t proto r) is.0 it.root)
-          (subst (λ (n : Option ℕ). IfSome n (λ x. IsRoot (with_named_root v.trail proto r) None x)) is.1
-          (subst (λ (t : Trail). IfSome then_null (λ x. IsRoot t None x)) is.0 it.null_root)) h))
+          (subst (λ (t : Trail). IsRoot t proto r) trail it.root)
+          (subst (λ (n : Option ℕ). IfSome n (λ x. IsRoot (with_named_root v.trail proto r) None x)) named
+          (subst (λ (t : Trail). IfSome then_null (λ x. IsRoot t None x)) trail it.null_root)) h))
 
   -- there is room for the walk
   pub rooted-space : (n : ℕ) → HasSpace v (shared_need v.trail n proto null) → HasSpace w (walk_need n)

@@ -1,13 +1,10 @@
 -- How an object without properties is made: slow at first, and fast where there is room for the root of its prototype.
-use Rattle.std.specs.Prelude.{◌≡◌, ℕ, ◌+◌, Option, Some, None, IfSome, List, length}
+use Rattle.std.specs.Prelude.{◌≡◌, ℕ, ◌+◌, Option, Some, List, length}
 use Rattle.hc_board.specs.Trail.{Access}
 use Rattle.hc_value.specs.declared.reply.Cause.TheVariants.{Space}
 use Rattle.hc_heap.specs.Readings.{root_in}
-use Rattle.hc_heap.specs.States.{View, IsHeap}
-use Rattle.hc_heap.specs.Writes.{Trail}
-use Rattle.hc_tree.specs.Growth.{root_of, root_need, with_named_root, of_null_after}
+use Rattle.hc_tree.specs.Growth.{root_of, root_need}
 use Rattle.hc_tree.specs.Needs.{HasSpace, with_need}
-use Rattle.hc_tree.specs.Tree.{IsTree, IsRoot}
 use Rattle.hc_table.specs.Changes.{Created, Moved}
 use Rattle.hc_table.specs.World.{new_object, object}
 use Rattle.hc_objects.specs.Came.{Steps, world_of}
@@ -25,28 +22,6 @@ pub record IsBegun {P : Type 0} (goes_with : P → List Access → List Access �
   pub cause : cause_in b.kept o ≡ Some Space
   pub others : KeptBut o a.kept b.kept
   pub null : b.of_null ≡ a.of_null
-
--- the trail after the root of a prototype, or of null, was made where there was none
-abbrev pub rooted : Option ℕ → Trail → Option ℕ → ℕ → Trail
-rooted (Some m) t proto r = t
-rooted None t proto r = with_named_root t proto r
-
--- the root of null then
-abbrev pub null_after : Option ℕ → Option ℕ → Option ℕ → ℕ → Option ℕ
-null_after (Some m) proto of_null r = of_null
-null_after None proto of_null r = of_null_after proto of_null r
-
--- the root of a prototype, or of null, was found or made
-pub record IsRooted (v w : View) (proto null then_null : Option ℕ) (r : ℕ) : Type 0 where
-  pub is_root : IsRoot w.trail proto r
-  pub found : (m : ℕ) → root_of v.trail proto null ≡ Some m → r ≡ m
-  pub trail : w.trail ≡ rooted (root_of v.trail proto null) v.trail proto r
-  pub named : then_null ≡ null_after (root_of v.trail proto null) proto null r
-  pub null_root : IfSome then_null (λ m. IsRoot w.trail None m)
-  pub used : w.used ≡ with_need (root_need (root_of v.trail proto null)) v.used
-  pub shape : w.shape ≡ v.shape
-  pub tree : IsTree w.trail
-  pub heap : IsHeap w
 
 -- a new object is fast now exactly where there is room for the root of its prototype
 pub record IsEntered {P : Type 0} (goes_with : P → List Access → List Access → P → Type 0) (a : ObjectsState P) (o : ℕ) (proto : Option ℕ) (b : ObjectsState P) : Type 0 where

@@ -10,15 +10,16 @@ use Rattle.hc_tree.specs.Growth.{root_of, root_need}
 use Rattle.hc_tree.specs.Needs.{HasSpace, with_need}
 use Rattle.hc_table.specs.World.{new_object, object}
 use Rattle.hc_objects.specs.Came.{world_of}
-use Rattle.hc_objects.specs.Creating.{IsEntered, IsRooted}
+use Rattle.hc_objects.specs.Creating.{IsEntered}
 use Rattle.hc_objects.specs.Meaning.{Dictionary, cause_in, kept_of, world}
 use Rattle.hc_objects.specs.Modes.{StaysFast, if_fast}
 use Rattle.hc_objects.specs.State.{ObjectsState, IsObjects}
 use Rattle.hc_objects.proofs.Become.{cause-some}
-use Rattle.hc_objects.proofs.Entering.{enter-lawful, enter-proto, enter-sound, enter-world, rooted-by}
+use Rattle.hc_objects.proofs.Entering.{enter-lawful, enter-proto, enter-sound, enter-world}
 use Rattle.hc_objects.proofs.Items.{kept-set, kept-set_here}
 use Rattle.hc_objects.proofs.Prototypes.{slow-none}
 use Rattle.hc_objects.proofs.Rising.{some-of}
+use Rattle.hc_objects.proofs.Rooted.{IsRooted, is-rooted}
 use Rattle.hc_objects.proofs.Shown.{within}
 use Rattle.hc_objects.proofs.objects.Objects.enter_root.Goals as goal
 
@@ -32,7 +33,8 @@ set_object_map-requires-clause-lawful g c =
     let w = c.root.new.h.view in
     let then = c.root.new.of_null in
     let r = c.in-Ok.root in
-    let it : IsRooted v w proto null then r = rooted-by c.self.inside.heap c.root.new.h proto null then r c.in-Ok.ensures.root c.in-Ok.ensures.found c.in-Ok.ensures.used c.in-Ok.ensures.still c.in-Ok.ensures.null_still c.in-Ok.ensures.made c.in-Ok.ensures.null c.root.ensures.null_root c.root.ensures.shape c.root.ensures.tree c.root.ensures.heap in
+    let e = c.in-Ok.ensures in
+    let it : IsRooted v w null then proto r = is-rooted c.self.inside.heap c.root.new.h null then proto r e.root e.still e.null_still e.made e.null e.null_root e.used e.shape e.tree e.heap in
     let there : o < length kept = within _ _ o c.self.view_is c.requires.object in
     let cause : cause_in kept o ≡ Some Space = subst (λ (s : ObjectsState g.row.P.Denot). cause_in s.kept o ≡ Some Space) (sym c.self.view_is) c.requires.slow in
     let d = some-of (kept_of kept o) (cause-some kept o Space cause) in
@@ -50,7 +52,8 @@ invariant_of-self-2 g c =
     let w = c.root.new.h.view in
     let then = c.root.new.of_null in
     let r = c.in-Ok.root in
-    let it : IsRooted v w proto null then r = rooted-by c.self.inside.heap c.root.new.h proto null then r c.in-Ok.ensures.root c.in-Ok.ensures.found c.in-Ok.ensures.used c.in-Ok.ensures.still c.in-Ok.ensures.null_still c.in-Ok.ensures.made c.in-Ok.ensures.null c.root.ensures.null_root c.root.ensures.shape c.root.ensures.tree c.root.ensures.heap in
+    let e = c.in-Ok.ensures in
+    let it : IsRooted v w null then proto r = is-rooted c.self.inside.heap c.root.new.h null then proto r e.root e.still e.null_still e.made e.null e.null_root e.used e.shape e.tree e.heap in
     let there : o < length kept = within _ _ o c.self.view_is c.requires.object in
     let cause : cause_in kept o ≡ Some Space = subst (λ (s : ObjectsState g.row.P.Denot). cause_in s.kept o ≡ Some Space) (sym c.self.view_is) c.requires.slow in
     let d = some-of (kept_of kept o) (cause-some kept o Space cause) in
@@ -71,7 +74,8 @@ returns g c =
     let w = c.root.new.h.view in
     let then = c.root.new.of_null in
     let r = c.in-Ok.root in
-    let it : IsRooted v w proto null then r = rooted-by c.self.inside.heap c.root.new.h proto null then r c.in-Ok.ensures.root c.in-Ok.ensures.found c.in-Ok.ensures.used c.in-Ok.ensures.still c.in-Ok.ensures.null_still c.in-Ok.ensures.made c.in-Ok.ensures.null c.root.ensures.null_root c.root.ensures.shape c.root.ensures.tree c.root.ensures.heap in
+    let e = c.in-Ok.ensures in
+    let it : IsRooted v w null then proto r = is-rooted c.self.inside.heap c.root.new.h null then proto r e.root e.still e.null_still e.made e.null e.null_root e.used e.shape e.tree e.heap in
     let there : o < length kept = within _ _ o c.self.view_is c.requires.object in
     let cause : cause_in kept o ≡ Some Space = subst (λ (s : ObjectsState g.row.P.Denot). cause_in s.kept o ≡ Some Space) (sym c.self.view_is) c.requires.slow in
     let d = some-of (kept_of kept o) (cause-some kept o Space cause) in
