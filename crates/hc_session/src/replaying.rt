@@ -2,6 +2,7 @@ ghost use Rattle.std.specs.Prelude.{◌≡◌, ◌⊎◌, ◌↔◌, ◌≤◌, 
 ghost use Rattle.hc_script.specs.Lines.{ahead};
 ghost use Rattle.hc_script.specs.Outside.{Rose};
 ghost use Rattle.hc_script.specs.Reader.{the_new_reader};
+ghost use Rattle.hc_session.specs.Fresh.{IsUntouched};
 ghost use Rattle.hc_session.specs.Progress.{EndsByFault};
 ghost use Rattle.hc_session.specs.Replay.{AskForReplay, WritesReplay, WritesUsage, IsFirstRefused, AreAllAccepted, IsCutShort, SpendsLines, EndsWith, the_first_place};
 
@@ -23,6 +24,8 @@ pub fn replay<S: Source, K: Sink>(
 ) -> Status
     requires { session.old.fresh ≡ true }
 
+    // It begins where nothing was done.
+    ensures start { IsUntouched session.old.state }
     // What is written: the replies of a run over the lines, and the line of a fault; or the usage.
     ensures written { AskForReplay (map string_bytes words.now) → WritesReplay (the_first_place session.old.state)
         (S.left source.old) (S.left source.new) session.new.state (K.taken sink.old) result (K.taken sink.new) }
@@ -46,6 +49,7 @@ pub fn replay<S: Source, K: Sink>(
     ensures write { result ≡ Status.WriteFault → Rose (K.faults sink.old) (K.faults sink.new) }
 {
     lines_have_one_meaning();
+    session.stands();
     replay_words(words, source, sink, session)
 }
 
@@ -73,6 +77,7 @@ fn replay_words<S: Source, K: Sink>(
         return Status::Memory;
     };
     let mut text = Vec::new(alloc);
+    session.stands();
     replay_lines(source, sink, session, &mut reader, &mut text)
 }
 
@@ -113,7 +118,7 @@ fn replay_lines<S: Source, K: Sink>(
     text: &mut Vec<u8>,
 ) -> Status
     requires reader { reader.old ≡ the_new_reader }
-    requires world { session.old.state.world ≡ [] }
+    requires untouched { IsUntouched session.old.state }
     ensures written { WritesReplay (the_first_place session.old.state)
         (S.left source.old) (S.left source.new) session.new.state (K.taken sink.old) result (K.taken sink.new) }
     ensures spent { (result ≡ Status.Memory) ⊎ SpendsLines (S.left source.old) session.old.state session.new.state }

@@ -5,6 +5,7 @@ ghost use Rattle.hc_table.specs.Changes.{Moved};
 ghost use Rattle.hc_objects.specs.Came.{Came, IsStill, world_of};
 ghost use Rattle.hc_script.specs.Verbs.{IsBuilt};
 ghost use Rattle.hc_script.specs.declared.command.Command.TheVariants.{Shape as ShapeCommand, Same as SameCommand};
+ghost use Rattle.hc_session.specs.Fresh.{IsUntouched};
 ghost use Rattle.hc_session.specs.State.{HasNumbers, Does, IsReplyTo, Stands, state_of, tables_of, without_pace};
 
 use crate::perform::perform;
@@ -50,18 +51,19 @@ impl<P: Pace> Model for Session<P> {
 
     ghost use Rattle.std.specs.Prelude.{not};
     ghost use Rattle.hc_session.specs.Fresh.{IsSession};
-    ghost use Rattle.hc_session.specs.State.{state_of, tables_of};
+    ghost use Rattle.hc_session.specs.State.{state_of};
 
     ghost view = { λ s. record { state = state_of s.objects; fresh = not s.begun } };
 
-    ghost invariant = { λ s. IsSession (tables_of (state_of s.objects)) s.begun };
+    ghost invariant = { λ s. IsSession (state_of s.objects) s.begun };
 }
 
 impl Session<Scripted> {
     /// A session in which nothing was done.
     pub fn scripted(alloc: Global, shape: Shape) -> Result<Session<Scripted>, Memory>
         requires { IsShape shape }
-        ensures world { IfOk result (λ session. session.state.world ≡ []) }
+        ensures untouched { IfOk result (λ session. IsUntouched session.state) }
+        ensures shape { IfOk result (λ session. session.state.objects.heap.view.shape ≡ shape) }
         ensures limit { IfOk result (λ session. session.state.limit ≡ shape.objects) }
         ensures fresh { IfOk result (λ session. session.fresh ≡ true) }
     {
@@ -77,7 +79,7 @@ impl<P: Pace> Session<P> {
     /// Whether no command was performed.
     pub fn fresh(&self) -> bool
         ensures fresh { result ≡ self.now.fresh }
-        ensures new { result ≡ true → self.now.state.world ≡ [] }
+        ensures untouched { result ≡ true → IsUntouched self.now.state }
     {
         !self.begun
     }
@@ -98,17 +100,16 @@ impl<P: Pace> Session<P> {
         reply
     }
 
-    /// What holds of the objects.
+    /// What holds of the objects, and where no command was performed.
     pub fn stands(&self)
         ensures stands { Stands self.now.state }
+        ensures untouched { self.now.fresh ≡ true → IsUntouched self.now.state }
     {
         self.objects.stands();
     }
 
     // The allocator that the session was made with.
-    pub(crate) fn allocator(&self) -> Global
-        ensures new { self.now.fresh ≡ true → self.now.state.world ≡ [] }
-    {
+    pub(crate) fn allocator(&self) -> Global {
         self.alloc
     }
 }
