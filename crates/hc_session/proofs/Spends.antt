@@ -31,7 +31,7 @@ line_spends law old new line text stands (inl passed) = (
   subst Stands (sym passed.same) stands,
 )
 line_spends law old new line text stands (inr answers) = (
-  law.one old.state.objects new.state.objects (did_by (tables_of old.state) answers.command) stands (command_finished (tables_of old.state) answers.command) answers.does.came,
+  law.one old.state.objects new.state.objects (did_by (tables_of old.state) answers.command) stands.sound (command_finished (tables_of old.state) answers.command) answers.does.came,
   answers.stands,
 )
 

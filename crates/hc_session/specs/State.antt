@@ -46,9 +46,11 @@ without_pace o = record { heap = record { view = o.heap.view; desk = o.heap.desk
 abbrev pub state_of : {P : Type 0} → ObjectsState P → State
 state_of o = record { world = world_of o; limit = o.heap.view.shape.objects; objects = without_pace o }
 
--- what always holds of objects holds of a state's: their words are lawful, and fast and slow ones are as these say
-abbrev pub Stands : State → Type 0
-Stands state = IsObjects state.objects.heap.view state.objects.kept state.objects.of_null
+-- a state's words and dictionaries are sound, and stand for its property tables
+pub record Stands (state : State) : Type 0 where
+  pub sound : IsObjects state.objects.heap.view state.objects.kept state.objects.of_null
+  pub world : state.world ≡ world_of state.objects
+  pub limit : state.limit ≡ state.objects.heap.view.shape.objects
 
 -- the property tables of a state
 abbrev pub tables_of : State → Tables

@@ -40,8 +40,8 @@ pub fn replay<S: Source, K: Sink>(
         AreAllAccepted bytes → (result ≡ Status.Done)
         ⊎ IsCutShort result (S.faults source.old) (S.faults source.new) (K.faults sink.old) (K.faults sink.new)) }
 
-    // What the lines handed out: at most so much a line, and an object is slow for want of room only where some region is
-    // nearly full at the end.
+    // What the lines handed out together: at most the greatest need of an operation for each; and an object is slow for
+    // want of room only where some region is nearly full at the end.
     ensures spent { AskForReplay (map string_bytes words.now) → (result ≡ Status.Memory)
         ⊎ SpendsLines (S.left source.old) session.old.state session.new.state }
 
