@@ -8,8 +8,6 @@ mod making;
 mod reading;
 mod rule;
 mod steps;
-#[cfg(test)]
-mod tests;
 mod writing;
 
 pub use laws::{

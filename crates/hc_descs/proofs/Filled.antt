@@ -2,7 +2,7 @@
 use Rattle.std.proofs.Common.{◌≡◌, ℕ, ◌+◌, ◌<◌, ◌≤◌, Bool, cond, Option, Some, IsSome, ◌∷◌, refl, ap, sym, ◌∙◌, subst, eqb, eq-eqb, ne_eqb, below_more, arith}
 use Rattle.hc_value.specs.declared.key.Key.{Key}
 use Rattle.hc_heap.specs.Writes.{Write, Trail, EntryKey, Reference}
-use Rattle.hc_heap.specs.Readings.{gate_in, entry_key_in, reference_in}
+use Rattle.hc_heap.specs.Readings.{array_in, gate_in, entry_key_in, reference_in}
 use Rattle.hc_heap.specs.Lawful.{HaveEntries, key_from, field_from}
 use Rattle.hc_heap.specs.Kept.{Adds}
 use Rattle.hc_heap.specs.Frames.{adds-none, adds-one, adds-on, same-after}
@@ -115,3 +115,11 @@ gate-step first m t _ p = absurd p
 -- gates stay while entries are written
 pub gate-same : (old now : Trail) (first m : ℕ) → Adds (FillsEntries first) old now → gate_in now m ≡ gate_in old m
 gate-same old now first m h = same-after (λ (t : Trail). gate_in t m) (gate-step first m) h
+
+array-step : (first m : ℕ) (t : Trail) (w : Write) → FillsEntries first t w → array_in (w ∷ t) m ≡ array_in t m
+array-step first m t (EntryKey e k) p = refl
+array-step first m t (Reference e f) p = refl
+array-step first m t _ p = absurd p
+
+pub array-same : (old now : Trail) (first m : ℕ) → Adds (FillsEntries first) old now → array_in now m ≡ array_in old m
+array-same old now first m h = same-after (λ (t : Trail). array_in t m) (array-step first m) h

@@ -1,5 +1,5 @@
 -- The entries that an open map has are written, and were handed out.
-use Rattle.std.proofs.Common.{◌≡◌, ℕ, ◌+◌, ◌<◌, ◌≤◌, Option, Some, None, IsSome, IsSomeAnd, refl, sym, subst, arith}
+use Rattle.std.proofs.Common.{◌≡◌, ℕ, ◌+◌, ◌<◌, ◌≤◌, Option, Some, None, IsSome, IsSomeAnd, refl, sym, ap, subst, arith}
 use Rattle.hc_layout.specs.declared.capacity.TheConstants.{MAX_FAST}
 use Rattle.hc_layout.specs.declared.shape.Region.TheVariants.{Fields}
 use Rattle.hc_layout.specs.declared.words.GateWord.{GateWord}
@@ -9,7 +9,7 @@ use Rattle.hc_heap.specs.Lawful.{HaveEntries, IsField, key_from, field_from}
 use Rattle.hc_heap.specs.Kept.{GatesAreOpen, UnusedSaysNothing}
 use Rattle.hc_heap.specs.States.{View, IsHeap}
 use Rattle.hc_heap.specs.declared.kind.Kind.TheVariants.{KeyOfEntry, ReferenceOfEntry, OwnerOfField}
-use Rattle.hc_descs.specs.Entries.{IsFree, AreFree}
+use Rattle.hc_descs.specs.Entries.{IsFree, AreFree, IsEntryAt}
 
 -- an open map has the entries of its gate
 pub entries-open : (v : View) (m : ℕ) (g : GateWord) → GatesAreOpen → IsHeap v → gate_in v.trail m ≡ Some g → HaveEntries v.trail (base_in v.trail m) g.entries
@@ -53,3 +53,28 @@ field-used v f law h made =
 -- an open map has few entries
 pub entries-few : (v : View) (m : ℕ) (g : GateWord) → GatesAreOpen → IsHeap v → gate_in v.trail m ≡ Some g → g.entries ≤ MAX_FAST
 entries-few v m g law h is = (law v.shape v.trail m g h.lawful is).few
+
+some-with : {T : Type 0} (P : T → Type 0) (o : Option T) → IsSomeAnd o P → (v : T) × ((o ≡ Some v) × P v)
+some-with P (Some v) h = (v, (refl, h))
+some-with P None h = absurd h
+
+-- an open map with a k-th entry has a base
+pub base-there : (v : View) (m k : ℕ) (o : Option ℕ) → GatesAreOpen → IsHeap v → IsSomeAnd (gate_in v.trail m) (λ g. k < g.entries) → o ≡ base_in v.trail m → IsSome o
+base-there v m k (Some e) law h some is = refl
+base-there v m k None law h some is =
+    let g = some-with (λ (g : GateWord). k < g.entries) (gate_in v.trail m) some in
+    absurd (none-have v.trail (base_in v.trail m) g.0.entries k (entries-open v m g.0 law h g.1.0) (sym is) g.1.1)
+
+-- where an open map's k-th entry stands
+pub entry-is : (v : View) (m k e : ℕ) → GatesAreOpen → IsHeap v → IsSomeAnd (gate_in v.trail m) (λ g. k < g.entries) → base_in v.trail m ≡ Some e → IsEntryAt v.trail m k (e + k)
+entry-is v m k e law h some is =
+    let g = some-with (λ (g : GateWord). k < g.entries) (gate_in v.trail m) some in
+    let have = entries-open v m g.0 law h g.1.0 in
+    let field : IsSomeAnd (reference_in v.trail (e + k)) (λ f. IsField v.trail f) = subst (λ (x : Option ℕ). IsSomeAnd (field_from v.trail x k) (λ (f : ℕ). IsField v.trail f)) is (have.fields k g.1.1) in
+    record {
+      key = ap (λ (x : Option ℕ). key_from v.trail x k) is;
+      field = ap (λ (x : Option ℕ). field_from v.trail x k) is;
+      written = key-there v.trail (base_in v.trail m) g.0.entries e k have is g.1.1;
+      named = some-of (λ (f : ℕ). IsField v.trail f) (reference_in v.trail (e + k)) field;
+      made = λ f e'. subst (λ (o : Option ℕ). IsSomeAnd o (λ x. IsField v.trail x)) e' field;
+    }

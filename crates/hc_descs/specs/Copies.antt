@@ -1,15 +1,24 @@
 -- Arrays of entries that are made for a new map.
-use Rattle.std.specs.Prelude.{◌≡◌, ℕ, ◌+◌, ◌<◌, ◌≤◌, true, Some}
+use Rattle.std.specs.Prelude.{◌≡◌, ℕ, ◌+◌, ◌<◌, ◌≤◌, ◌==◌, if◌then◌else◌, true, Some}
 use Rattle.hc_layout.specs.Capacity.{cap_of}
 use Rattle.hc_layout.specs.declared.words.ArrayWord.{ArrayWord}
 use Rattle.hc_value.specs.declared.key.Key.{Key}
 use Rattle.hc_heap.specs.Writes.{Write, Trail, Base, Array, EntryKey, Reference}
-use Rattle.hc_heap.specs.Readings.{base_in, array_in}
-use Rattle.hc_descs.specs.Entries.{key_at, field_at}
+use Rattle.hc_heap.specs.Readings.{no_array, base_in, array_in}
+use Rattle.hc_descs.specs.Entries.{IsFree, key_at, field_at}
 
 -- the array of a map that has one of its own, of this capacity
 abbrev pub own_array : ℕ → ArrayWord
 own_array capacity = record { owner = true; capacity = capacity }
+
+-- the array of a map with n entries: one of its own, with the capacity of its entries; none for no entry
+abbrev pub array_for : ℕ → ArrayWord
+array_for n = if n == 0 then no_array else own_array (cap_of n)
+
+-- a map with n entries has its array, and nothing is written of the array's spare entries
+pub record HasArray (t : Trail) (m n : ℕ) : Type 0 where
+  pub array : array_in t m ≡ array_for n
+  pub spare : (base k : ℕ) → base_in t m ≡ Some base → n ≤ k → k < (array_in t m).capacity → IsFree t (base + k)
 
 -- writes that fill a new array, from its first entry on, and give it to a map
 abbrev pub FillsArray : ℕ → ℕ → Trail → Write → Type 0

@@ -4,7 +4,7 @@ use Rattle.hc_layout.specs.declared.words.GateWord.{GateWord}
 use Rattle.hc_value.specs.declared.key.Key.{Key}
 use Rattle.hc_heap.specs.Writes.{Trail}
 use Rattle.hc_heap.specs.Readings.{gate_in, base_in, entry_key_in, reference_in}
-use Rattle.hc_heap.specs.Lawful.{key_from, field_from}
+use Rattle.hc_heap.specs.Lawful.{IsField, key_from, field_from}
 
 -- the key of a map's k-th entry, if it was written
 abbrev pub key_at : Trail → ℕ → ℕ → Option Key
@@ -52,3 +52,11 @@ pub record IsFree (t : Trail) (e : ℕ) : Type 0 where
 -- nothing is written of the entries from this one on
 abbrev pub AreFree : Trail → ℕ → Type 0
 AreFree t first = (e : ℕ) → first ≤ e → IsFree t e
+
+-- a map's k-th entry stands here: it is written, and its field is made
+pub record IsEntryAt (t : Trail) (m k e : ℕ) : Type 0 where
+  pub key : key_at t m k ≡ entry_key_in t e
+  pub field : field_at t m k ≡ reference_in t e
+  pub written : IsSome (entry_key_in t e)
+  pub named : IsSome (reference_in t e)
+  pub made : (f : ℕ) → reference_in t e ≡ Some f → IsField t f

@@ -2,7 +2,7 @@ ghost use Rattle.std.specs.Prelude.{◌≡◌, ℕ, ◌+◌, ◌<◌, ◌≤◌,
 ghost use Rattle.hc_layout.specs.Capacity.{cap_of};
 ghost use Rattle.hc_layout.specs.declared.capacity.TheConstants.{MAX_FAST};
 ghost use Rattle.hc_layout.specs.declared.shape.Region.TheVariants.{Entries};
-ghost use Rattle.hc_heap.specs.Readings.{gate_in, base_in};
+ghost use Rattle.hc_heap.specs.Readings.{no_array, gate_in, base_in, array_in};
 ghost use Rattle.hc_heap.specs.Lawful.{IsField, IsKey, HaveEntries};
 ghost use Rattle.hc_heap.specs.Kept.{Adds};
 ghost use Rattle.hc_heap.specs.States.{IsHeap, Goes, HasRoom};
@@ -59,12 +59,13 @@ fn copy_entry_keys<P: Pace>(h: &mut Heap<P>, map: u32, to: u32, n: u32, first: u
     }
 }
 
-/// Gives a map that isn't open yet an array of its own: the entries of an open map, and one more.
+/// Gives a map that isn't open yet, and has no array, one of its own: the entries of an open map, and one more.
 /// Nothing is written of the array's further entries.
 pub fn copy<P: Pace>(h: &mut Heap<P>, map: u32, child: u32, key: Key, field: u32)
     requires open { IsSomeAnd (gate_in h.old.view.trail map) (λ g. g.entries < MAX_FAST) }
     requires handed { child < h.old.view.used.maps }
     requires closed { gate_in h.old.view.trail child ≡ None }
+    requires bare { array_in h.old.view.trail child ≡ no_array }
     requires key { IsKey key }
     requires field { IsField h.old.view.trail field }
     requires room { HasRoom h.old.view Entries (cap_of (count_of h.old.view.trail map + 1)) }
@@ -91,11 +92,12 @@ pub fn copy<P: Pace>(h: &mut Heap<P>, map: u32, child: u32, key: Key, field: u32
     give_array(h, child, first, capacity);
 }
 
-/// Gives a map that isn't open yet an array of its own: the entries of an open map that has some.
+/// Gives a map that isn't open yet, and has no array, one of its own: the entries of an open map that has some.
 pub fn copy_all<P: Pace>(h: &mut Heap<P>, map: u32, child: u32)
     requires open { IsSomeAnd (gate_in h.old.view.trail map) (λ g. 0 < g.entries) }
     requires handed { child < h.old.view.used.maps }
     requires closed { gate_in h.old.view.trail child ≡ None }
+    requires bare { array_in h.old.view.trail child ≡ no_array }
     requires room { HasRoom h.old.view Entries (cap_of (count_of h.old.view.trail map)) }
     ensures shape { h.new.view.shape ≡ h.old.view.shape }
     ensures used { h.new.view.used ≡ record h.old.view.used { entries = h.old.view.used.entries + cap_of (count_of h.old.view.trail map) } }
@@ -118,12 +120,13 @@ pub fn copy_all<P: Pace>(h: &mut Heap<P>, map: u32, child: u32)
     give_array(h, child, base, capacity);
 }
 
-/// Gives a map that isn't open yet an array of its own: the keys of an open map that has some, with fields
+/// Gives a map that isn't open yet, and has no array, one of its own: the keys of an open map that has some, with fields
 /// that follow one another from the first one on.
 pub fn copy_keys<P: Pace>(h: &mut Heap<P>, map: u32, child: u32, first: u32)
     requires open { IsSomeAnd (gate_in h.old.view.trail map) (λ g. 0 < g.entries) }
     requires handed { child < h.old.view.used.maps }
     requires closed { gate_in h.old.view.trail child ≡ None }
+    requires bare { array_in h.old.view.trail child ≡ no_array }
     requires fields { first + count_of h.old.view.trail map ≤ h.old.view.used.fields }
     requires made { (k : ℕ) → k < count_of h.old.view.trail map → IsField h.old.view.trail (first + k) }
     requires room { HasRoom h.old.view Entries (cap_of (count_of h.old.view.trail map)) }

@@ -1,7 +1,7 @@
 //! One entry of an array, and the array of a map.
-ghost use Rattle.std.specs.Prelude.{◌≡◌, ◌<◌, ◌≤◌, ◌^◌, None, Some, IsSome};
+ghost use Rattle.std.specs.Prelude.{◌≡◌, ◌+◌, ◌<◌, ◌≤◌, ◌^◌, None, Some, IsSome};
 ghost use Rattle.hc_heap.specs.Writes.{EntryKey, Reference, Base, Array};
-ghost use Rattle.hc_heap.specs.Readings.{gate_in, entry_key_in, reference_in};
+ghost use Rattle.hc_heap.specs.Readings.{no_array, gate_in, array_in, entry_key_in, reference_in};
 ghost use Rattle.hc_heap.specs.Lawful.{IsKey};
 ghost use Rattle.hc_heap.specs.States.{IsHeap, Goes, one_load, with_write};
 ghost use Rattle.hc_descs.specs.Copies.{own_array};
@@ -57,11 +57,13 @@ pub(crate) fn put_entry<P: Pace>(h: &mut Heap<P>, entry: u32, key: Key, field: u
     h.set_reference(entry, field);
 }
 
-// Gives a map that isn't open yet an array of its own.
+// Gives a map that isn't open yet, and has no array, one of its own.
 pub(crate) fn give_array<P: Pace>(h: &mut Heap<P>, map: u32, first: u32, capacity: u32)
     requires handed { map < h.old.view.used.maps }
     requires closed { gate_in h.old.view.trail map ≡ None }
+    requires bare { array_in h.old.view.trail map ≡ no_array }
     requires there { first < h.old.view.shape.entries }
+    requires array { first + capacity ≤ h.old.view.used.entries }
     requires form { capacity < 2 ^ COUNT_BITS }
     ensures view { h.new.view ≡ with_write (with_write h.old.view (Base map (Some first))) (Array map (own_array capacity)) }
     ensures heap { IsHeap h.new.view }

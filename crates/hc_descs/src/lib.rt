@@ -1,12 +1,11 @@
-//! Descriptor arrays: the entries of maps, found by name, and copied into arrays of new maps.
+//! Descriptor arrays: the entries of maps, read, found by name, and copied into arrays of new maps.
 #![tactic(auto)]
 
 mod copies;
 mod entry;
 mod lookup;
+mod reading;
 
 pub use copies::{copy, copy_all, copy_keys};
 pub use lookup::find;
-
-#[cfg(test)]
-mod tests;
+pub use reading::{field_at, key_at};

@@ -124,6 +124,3 @@ impl Dict {
         self.map.shift_remove_index(i as usize);
     }
 }
-
-#[cfg(test)]
-mod tests;

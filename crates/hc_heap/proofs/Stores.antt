@@ -1,5 +1,6 @@
 -- What a store, and the handing out of items, keep.
-use Rattle.std.proofs.Common.{◌≡◌, ℕ, ◌+◌, ◌<◌, ◌≤◌, ◌^◌, Option, Some, None, List, [], ◌∷◌, ◌++◌, length, get_or, refl, sym, ap, ◌∙◌, subst, arith, IfSome}
+use Rattle.std.proofs.Common.{◌≡◌, ℕ, ◌+◌, ◌<◌, ◌≤◌, ◌^◌, Bool, true, false, cond, Option, Some, None, List, [], ◌∷◌, ◌++◌, length, get_or, refl, sym, ap, ◌∙◌, subst, arith, eqb, eqb-true, IfSome}
+use Rattle.std.proofs.Math.Nat.{le_trans}
 use Rattle.hc_board.specs.Trail.{Access, image_of}
 use Rattle.hc_board.specs.States.{WriterState}
 use Rattle.hc_layout.specs.Shape.{items_of, words_of, IsShape}
@@ -10,10 +11,15 @@ use Rattle.hc_layout.specs.declared.shape.Region.{Region}
 use Rattle.hc_layout.specs.declared.shape.Region.TheVariants.{Maps, Entries, Fields, Links, Objects, Slots, Cells}
 use Rattle.hc_heap.specs.declared.kind.Kind.{Kind}
 use Rattle.hc_heap.specs.Kinds.{region_of, place_at}
-use Rattle.hc_heap.specs.Writes.{Write, Trail, kind_written, item_written}
-use Rattle.hc_heap.specs.Decode.{written, written_kind, written_place, write_of, put_before, typed}
+use Rattle.hc_heap.specs.declared.kind.Kind.TheVariants.{GateOfMap, ParentOfMap, PrototypeOfMap, BitsOfMap, BaseOfMap, ArrayOfMap, HeadOfMap, KeyOfEntry, ReferenceOfEntry, OwnerOfField, DetailOfField, KeyOfLink, ChildOfLink, NextOfLink, MapOfObject, RootOfObject, StoreOfObject, CellOfObject, WordOfSlot, StateOfCell}
+use Rattle.hc_layout.specs.Words.{gate_of, map_bits_of, array_of, root_of, store_of, cell_of}
+use Rattle.hc_layout.specs.declared.words.ArrayWord.{ArrayWord}
+use Rattle.hc_value.specs.Field.{detail_of}
+use Rattle.hc_heap.specs.Readings.{base_in, array_in}
+use Rattle.hc_heap.specs.Writes.{Write, Trail, kind_written, item_written, Gate, Parent, Prototype, Bits, Base, Array, Head, EntryKey, Reference, Owner, FieldDetail, LinkKey, LinkChild, LinkNext, ObjectMap, Root, Store, ObjectCell, Slot, Validity}
+use Rattle.hc_heap.specs.Decode.{key_read, settled_number, optional_number, number_read, any_word, made, written, written_kind, written_place, write_of, put_before, typed}
 use Rattle.hc_heap.specs.Lawful.{LawfulWrite, IsLawful, Lawful, AllWithin, IsWithin, IsAmong}
-use Rattle.hc_heap.specs.States.{View, no_items, IsHeap, IsWords, HasRoom, with_items, with_write}
+use Rattle.hc_heap.specs.States.{View, no_items, AreArraysThere, IsHeap, KeepsArrays, IsWords, HasRoom, with_items, with_write}
 use Rattle.hc_heap.proofs.Forms.{is-written}
 use Rattle.hc_heap.proofs.Places.{kind-back}
 use Rattle.hc_heap.specs.Said.{word_in, Says}
@@ -47,6 +53,53 @@ within-more : (s : Shape) (w : Write) (t : Trail) → AllWithin s t → IsWithin
 unfolding AllWithin
 within-more s w t h l = (h, l)
 
+-- What a write leaves of the arrays of maps
+
+-- a write keeps a map's array among the first entries
+abbrev KeepsBy : ℕ → Trail → Write → Type 0
+KeepsBy entries t (Base m b) = (base : ℕ) → b ≡ Some base → base + (array_in t m).capacity ≤ entries
+KeepsBy entries t (Array m a) = (base : ℕ) → base_in t m ≡ Some base → base + a.capacity ≤ entries
+KeepsBy entries t _ = Unit {0}
+
+keeps-made : {T : Type 0} (entries : ℕ) (t : Trail) (form : ℕ → T → Write) (x : ℕ) (said : Option T) → ((v : T) → said ≡ Some v → KeepsBy entries t (form x v)) → KeepsBy entries t (made form x said)
+keeps-made entries t form x (Some v) h = h v refl
+keeps-made entries t form x None h = tt
+
+keeps-of : (v : View) (kind : Kind) (x w : ℕ) → KeepsArrays v kind x w → KeepsBy v.used.entries v.trail (written kind x w)
+keeps-of v GateOfMap x w h = keeps-made v.used.entries v.trail Gate x (gate_of w) (λ a e. tt)
+keeps-of v ParentOfMap x w h = keeps-made v.used.entries v.trail Parent x (settled_number w) (λ a e. tt)
+keeps-of v PrototypeOfMap x w h = keeps-made v.used.entries v.trail Prototype x (settled_number w) (λ a e. tt)
+keeps-of v BitsOfMap x w h = keeps-made v.used.entries v.trail Bits x (map_bits_of w) (λ a e. tt)
+keeps-of v BaseOfMap x w h = keeps-made v.used.entries v.trail Base x (optional_number w) (λ b e base is. h base (e ∙ ap Some is))
+keeps-of v ArrayOfMap x w h = keeps-made v.used.entries v.trail Array x (array_of w) (λ a e base is. h a base e is)
+keeps-of v HeadOfMap x w h = keeps-made v.used.entries v.trail Head x (optional_number w) (λ a e. tt)
+keeps-of v KeyOfEntry x w h = keeps-made v.used.entries v.trail EntryKey x (key_read w) (λ a e. tt)
+keeps-of v ReferenceOfEntry x w h = keeps-made v.used.entries v.trail Reference x (number_read w) (λ a e. tt)
+keeps-of v OwnerOfField x w h = keeps-made v.used.entries v.trail Owner x (number_read w) (λ a e. tt)
+keeps-of v DetailOfField x w h = keeps-made v.used.entries v.trail FieldDetail x (detail_of w) (λ a e. tt)
+keeps-of v KeyOfLink x w h = keeps-made v.used.entries v.trail LinkKey x (key_read w) (λ a e. tt)
+keeps-of v ChildOfLink x w h = keeps-made v.used.entries v.trail LinkChild x (number_read w) (λ a e. tt)
+keeps-of v NextOfLink x w h = keeps-made v.used.entries v.trail LinkNext x (settled_number w) (λ a e. tt)
+keeps-of v MapOfObject x w h = keeps-made v.used.entries v.trail ObjectMap x (optional_number w) (λ a e. tt)
+keeps-of v RootOfObject x w h = keeps-made v.used.entries v.trail Root x (root_of w) (λ a e. tt)
+keeps-of v StoreOfObject x w h = keeps-made v.used.entries v.trail Store x (store_of w) (λ a e. tt)
+keeps-of v CellOfObject x w h = keeps-made v.used.entries v.trail ObjectCell x (optional_number w) (λ a e. tt)
+keeps-of v WordOfSlot x w h = keeps-made v.used.entries v.trail Slot x (any_word w) (λ a e. tt)
+keeps-of v StateOfCell x w h = keeps-made v.used.entries v.trail Validity x (cell_of w) (λ a e. tt)
+
+base-case : (entries : ℕ) (t : Trail) (n m base : ℕ) (b : Option ℕ) (test : Bool) → eqb n m ≡ test → ((x : ℕ) → b ≡ Some x → x + (array_in t n).capacity ≤ entries) → AreArraysThere entries t → cond test b (base_in t m) ≡ Some base → base + (array_in t m).capacity ≤ entries
+base-case entries t n m base b true e k h is = subst (λ (x : ℕ). base + (array_in t x).capacity ≤ entries) (eqb-true n m e) (k base is)
+base-case entries t n m base b false e k h is = h m base is
+
+array-case : (entries : ℕ) (t : Trail) (n m base : ℕ) (a : ArrayWord) (test : Bool) → eqb n m ≡ test → ((x : ℕ) → base_in t n ≡ Some x → x + a.capacity ≤ entries) → AreArraysThere entries t → base_in t m ≡ Some base → base + (cond test a (array_in t m)).capacity ≤ entries
+array-case entries t n m base a true e k h is = k base (ap (base_in t) (eqb-true n m e) ∙ is)
+array-case entries t n m base a false e k h is = h m base is
+
+arrays-on : (entries : ℕ) (t : Trail) (w : Write) → KeepsBy entries t w → AreArraysThere entries t → AreArraysThere entries (w ∷ t)
+arrays-on entries t (Base n b) k h = λ m base is. base-case entries t n m base b (eqb n m) refl k h is
+arrays-on entries t (Array n a) k h = λ m base is. array-case entries t n m base a (eqb n m) refl k h is
+arrays-on entries t _ k h = h
+
 abbrev with_trail : View → Trail → View
 with_trail v t = record v { trail = t }
 
@@ -55,8 +108,8 @@ pub record IsStored (v : View) (d : WriterState) (kind : Kind) (x index w : ℕ)
   pub trail : typed v.shape (d.trail ++ (index, w) ∷ []) ≡ written kind x w ∷ v.trail
   pub heap : IsHeap (record v { trail = typed v.shape (d.trail ++ (index, w) ∷ []) })
 
-pub after-store : (v : View) (d : WriterState) (kind : Kind) (x index w : ℕ) → IsWords v d → x < items_of v.used (region_of kind) → LawfulWrite v.shape v.trail (written kind x w) → place_of v.shape index ≡ Some (place_at kind x) → IsStored v d kind x index w
-after-store v d kind x index w is handed lawful at =
+pub after-store : (v : View) (d : WriterState) (kind : Kind) (x index w : ℕ) → IsWords v d → x < items_of v.used (region_of kind) → LawfulWrite v.shape v.trail (written kind x w) → KeepsArrays v kind x w → place_of v.shape index ≡ Some (place_at kind x) → IsStored v d kind x index w
+after-store v d kind x index w is handed lawful keeps at =
     let trail : typed v.shape (d.trail ++ (index, w) ∷ []) ≡ written kind x w ∷ v.trail =
     typed-last v.shape d.trail (index, w) ∙ (ap (λ (a : Write). a ∷ typed v.shape d.trail) (write-is v.shape index w kind x at) ∙ ap (λ (t : Trail). written kind x w ∷ t) (sym is.desk.trail)) in
     let k = is-written kind x w (lawful-known v.shape v.trail (written kind x w) lawful) in
@@ -67,6 +120,7 @@ after-store v d kind x index w is handed lawful at =
       lawful = lawful-more v.shape (written kind x w) v.trail is.heap.lawful (record { within = among v.shape kind x (written kind x w) k.0 k.1 there; lawful = lawful });
       used = within-more v.used (written kind x w) v.trail is.heap.used (among v.used kind x (written kind x w) k.0 k.1 handed);
       most = is.heap.most;
+      arrays = arrays-on v.used.entries v.trail (written kind x w) (keeps-of v kind x w keeps) is.heap.arrays;
     } in
     record {
       trail = trail;
@@ -123,6 +177,7 @@ after-fresh v d r n is room = record {
     lawful = is.heap.lawful;
     used = within-wider v.used (with_items r (items_of v.used r + n) v.used) v.trail (λ q. count-rises r q (items_of v.used r + n) v.used (omega arith)) is.heap.used;
     most = λ q. count-below r q (items_of v.used r + n) v.used v.shape is.heap.most room;
+    arrays = λ m base e. le_trans (is.heap.arrays m base e) (count-rises r Entries (items_of v.used r + n) v.used (omega arith));
   };
   desk = record { width = is.desk.width; trail = is.desk.trail };
 }
@@ -148,9 +203,9 @@ pub record HasStored (shape used : Shape) (d new : WriterState) (kind : Kind) (x
   pub words : IsWords (view_of shape used new) new
 
 pub has-stored : (shape used : Shape) (d new : WriterState) (kind : Kind) (x index w : ℕ) → new ≡ record d { trail = d.trail ++ (index, w) ∷ [] } → IsWords (view_of shape used d) d → x < items_of used (region_of kind)
-    → LawfulWrite shape (typed shape d.trail) (written kind x w) → place_of shape index ≡ Some (place_at kind x) → HasStored shape used d new kind x w
-has-stored shape used d new kind x index w e is handed lawful at =
-    let stored = after-store (view_of shape used d) d kind x index w is handed lawful at in
+    → LawfulWrite shape (typed shape d.trail) (written kind x w) → KeepsArrays (view_of shape used d) kind x w → place_of shape index ≡ Some (place_at kind x) → HasStored shape used d new kind x w
+has-stored shape used d new kind x index w e is handed lawful keeps at =
+    let stored = after-store (view_of shape used d) d kind x index w is handed lawful keeps at in
     let last : WriterState = record d { trail = d.trail ++ (index, w) ∷ [] } in
     subst (λ (n : WriterState). HasStored shape used d n kind x w) (sym e)
     (record {
@@ -204,6 +259,7 @@ has-opened shape d fits none width =
           lawful = subst (Lawful shape) (sym trail) (lawful-none shape);
           used = subst (AllWithin no_items) (sym trail) (within-none no_items);
           most = λ r. no-items r (items_of shape r);
+          arrays = subst (AreArraysThere 0) (sym trail) (λ m base is. let n : ⊥ = cc in absurd n);
         };
         desk = record { width = width; trail = refl };
       };

@@ -54,6 +54,23 @@ same-after {T} {P} reading h {a} {b} x = ap reading x.is ∙ same-over P reading
 pub goes-on-of : {P : Trail → Write → Type 0} {a b : Trail} (s : Shape) → Adds P a b → Lawful s b → GoesOn s a b
 goes-on-of s x h = record { more = x.more; is = x.is; lawful = h }
 
+-- a lawful trail goes on from itself
+pub goes-still : {t : Trail} (s : Shape) → Lawful s t → GoesOn s t t
+goes-still s h = record { more = []; is = refl; lawful = h }
+
+-- a trail goes on, and on
+pub goes-further : {a b c : Trail} (s : Shape) → GoesOn s a b → GoesOn s b c → GoesOn s a c
+goes-further {a} s x y = record { more = y.more ++ x.more; is = y.is ∙ (ap (λ (t : Trail). y.more ++ t) x.is ∙ sym (append_assoc y.more x.more a)); lawful = y.lawful }
+
+lawful-front : (s : Shape) (a : Trail) (more : List Write) → Lawful s (more ++ a) → Lawful s a
+unfolding Lawful
+lawful-front s a [] h = h
+lawful-front s a (w ∷ more) h = lawful-front s a more h.0
+
+-- a trail from which a lawful one goes on is lawful
+pub lawful-before : {a b : Trail} (s : Shape) → GoesOn s a b → Lawful s a
+lawful-before {a} s g = lawful-front s a g.more (subst (Lawful s) g.is g.lawful)
+
 -- a list goes on from itself
 pub extends-none : {T : Type 0} (a : List T) → Extends a a
 extends-none a = record { more = []; is = sym (append-nil a) }

@@ -1,5 +1,5 @@
 -- What a lawful trail keeps for good, each law the contract of a function of `laws.rt`.
-use Rattle.std.specs.Prelude.{◌≡◌, ℕ, ◌-◌, ◌<◌, ◌≤◌, false, IsTrue, Option, Some, IsSome, IsSomeAnd, List, [], ◌∷◌, ◌++◌, length, take, drop}
+use Rattle.std.specs.Prelude.{◌≡◌, ℕ, ◌+◌, ◌-◌, ◌<◌, ◌≤◌, false, IsTrue, Option, Some, IsSome, IfSome, IsSomeAnd, List, [], ◌∷◌, ◌++◌, length, take, drop}
 use Rattle.hc_board.specs.Trail.{Access, word_at}
 use Rattle.hc_layout.specs.Shape.{items_of, words_of}
 use Rattle.hc_layout.specs.Place.{index_of}
@@ -12,7 +12,7 @@ use Rattle.hc_value.specs.declared.field.Detail.{Detail}
 use Rattle.hc_value.specs.declared.key.Key.{Key}
 use Rattle.hc_heap.specs.Writes.{Write, Trail}
 use Rattle.hc_heap.specs.Decode.{typed}
-use Rattle.hc_heap.specs.Readings.{gate_in, parent_in, prototype_in, bits_in, base_in, entry_key_in, reference_in, owner_in, detail_in, link_key_in, link_child_in, link_next_in, map_in, root_in, store_in, validity_in}
+use Rattle.hc_heap.specs.Readings.{gate_in, parent_in, prototype_in, bits_in, base_in, head_in, entry_key_in, reference_in, owner_in, detail_in, link_key_in, link_child_in, link_next_in, map_in, root_in, store_in, validity_in}
 use Rattle.hc_heap.specs.Lawful.{Lawful, RisesTo, HaveEntries, IsAmong, AllWithin, IsKey, IsClassThere, AreSlots, key_from, field_from}
 use Rattle.hc_heap.specs.Kinds.{region_of, place_at}
 use Rattle.hc_heap.specs.Said.{Says, SaysNothing}
@@ -77,6 +77,10 @@ PositionsAreStores = (s : Shape) (stores : List Access) (position : ℕ) → typ
 abbrev pub WrittenIsKept : Type 0
 WrittenIsKept = (s : Shape) (old new : Trail) → GoesOn s old new → WrittenStays old new
 
+-- a deprecated map is unstable
+abbrev pub DeprecatedAreUnstable : Type 0
+DeprecatedAreUnstable = (s : Shape) (t : Trail) (m : ℕ) → Lawful s t → IsTrue (bits_in t m).deprecated → IsTrue (bits_in t m).unstable
+
 abbrev pub SetIsKept : Type 0
 SetIsKept = (s : Shape) (old new : Trail) → GoesOn s old new → OnlySet old new
 
@@ -111,6 +115,11 @@ pub record IsOpen (t : Trail) (m : ℕ) (g : GateWord) : Type 0 where
 abbrev pub GatesAreOpen : Type 0
 GatesAreOpen = (s : Shape) (t : Trail) (m : ℕ) (g : GateWord) → Lawful s t → gate_in t m ≡ Some g → IsOpen t m g
 
+-- an object's map is open, and the object has a slot for each of its entries
+pub record HasPlacesFor (s : Shape) (t : Trail) (o m : ℕ) : Type 0 where
+  pub there : m < s.maps
+  pub is_open : IsSomeAnd (gate_in t m) (λ g. g.entries ≤ (store_in t o).capacity)
+
 -- what a word says is of the form that its write asked, and names what is there
 pub record FormsHold (s : Shape) (t : Trail) : Type 0 where
   pub entry_key : (e : ℕ) (key : Key) → entry_key_in t e ≡ Some key → IsKey key
@@ -119,6 +128,14 @@ pub record FormsHold (s : Shape) (t : Trail) : Type 0 where
   pub link_key : (l : ℕ) (key : Key) → link_key_in t l ≡ Some key → IsKey key
   pub prototype : (m o : ℕ) → prototype_in t m ≡ Some (Some o) → (o < s.objects) × IsTrue (root_in t o).is_proto
   pub slots : (o : ℕ) → AreSlots s (store_in t o)
+  pub first : (o : ℕ) → 0 < (store_in t o).capacity → IsSome (store_in t o).first
+  pub parent : (m : ℕ) (p : Option ℕ) → parent_in t m ≡ Some p → IfSome p (λ q. q < s.maps)
+  pub owner : (f m : ℕ) → owner_in t f ≡ Some m → m < s.maps
+  pub head : (m : ℕ) → IfSome (head_in t m) (λ l. l < s.links)
+  pub link_child : (l c : ℕ) → link_child_in t l ≡ Some c → c < s.maps
+  pub link_next : (l : ℕ) (n : Option ℕ) → link_next_in t l ≡ Some n → IfSome n (λ k. k < s.links)
+  pub object_map : (o m : ℕ) → map_in t o ≡ Some m → HasPlacesFor s t o m
+  pub base : (m : ℕ) (g : GateWord) (k : ℕ) → gate_in t m ≡ Some g → k < g.entries → IsSomeAnd (base_in t m) (λ e. e + k < s.entries)
 
 abbrev pub FormsAreKept : Type 0
 FormsAreKept = (s : Shape) (t : Trail) → Lawful s t → FormsHold s t
@@ -135,3 +152,11 @@ StoresAreWrites = (s : Shape) (stores : List Access) → length (typed s stores)
 -- nothing was said of an item that wasn't handed out
 abbrev pub UnusedSaysNothing : Type 0
 UnusedSaysNothing = (counts : Shape) (t : Trail) (kind : Kind) (item : ℕ) → AllWithin counts t → items_of counts (region_of kind) ≤ item → SaysNothing kind t item
+
+-- each write is to an item of the board
+abbrev pub WritesAreWithin : Type 0
+WritesAreWithin = (s : Shape) (t : Trail) → Lawful s t → AllWithin s t
+
+-- an object never gets fewer slots
+abbrev pub StoresGrow : Type 0
+StoresGrow = (s : Shape) (old new : Trail) (o : ℕ) → GoesOn s old new → (store_in old o).capacity ≤ (store_in new o).capacity

@@ -178,12 +178,16 @@ abbrev pub word_from : Trail → Option ℕ → ℕ → ℕ
 word_from t None k = 0
 word_from t (Some first) k = slot_in t (first + k)
 
+-- the word of an object's k-th slot
+abbrev pub slot_word : Trail → ℕ → ℕ → ℕ
+slot_word t o k = word_from t (store_in t o).first k
+
 -- the word of an object's k-th slot is of the form that the k-th entry of a map asks
 abbrev pub HoldsEntry : Trail → ℕ → ℕ → ℕ → Type 0
 HoldsEntry t o m k =
     IsSomeAnd (key_from t (base_in t m) k) (λ key.
     IsSomeAnd (field_from t (base_in t m) k) (λ f.
-    IsSomeAnd (detail_in t f) (λ d. IsFormOf key.kind d.rep (word_from t (store_in t o).first k))))
+    IsSomeAnd (detail_in t f) (λ d. IsFormOf key.kind d.rep (slot_word t o k))))
 
 -- an object's slots hold what a map with this gate asks
 pub record HoldsEntries (t : Trail) (o m : ℕ) (g : GateWord) : Type 0 where

@@ -1,5 +1,5 @@
 -- What contracts see of a heap.
-use Rattle.std.specs.Prelude.{◌≡◌, ℕ, ◌+◌, ◌≤◌, List, [], ◌∷◌, ◌++◌}
+use Rattle.std.specs.Prelude.{◌≡◌, ℕ, ◌+◌, ◌≤◌, Some, List, [], ◌∷◌, ◌++◌}
 use Rattle.hc_board.specs.Trail.{Access}
 use Rattle.hc_board.specs.States.{WriterState, ReaderState, entry_of, position_of}
 use Rattle.hc_layout.specs.Shape.{IsShape, items_of, words_of}
@@ -7,7 +7,12 @@ use Rattle.hc_layout.specs.declared.shape.Shape.{Shape}
 use Rattle.hc_layout.specs.declared.shape.Region.{Region}
 use Rattle.hc_layout.specs.declared.shape.Region.TheVariants.{Maps, Entries, Fields, Links, Objects, Slots, Cells}
 use Rattle.hc_heap.specs.Writes.{Write, Trail}
-use Rattle.hc_heap.specs.Decode.{typed}
+use Rattle.hc_heap.specs.Decode.{typed, optional_number}
+use Rattle.hc_heap.specs.declared.kind.Kind.{Kind}
+use Rattle.hc_heap.specs.declared.kind.Kind.TheVariants.{BaseOfMap, ArrayOfMap}
+use Rattle.hc_heap.specs.Readings.{base_in, array_in}
+use Rattle.hc_layout.specs.Words.{array_of}
+use Rattle.hc_layout.specs.declared.words.ArrayWord.{ArrayWord}
 use Rattle.hc_heap.specs.Lawful.{Lawful, AllWithin}
 
 -- the words' view: how many items there are, all writes, and how many items were handed out
@@ -45,12 +50,23 @@ with_items Cells n s = record s { cells = n }
 abbrev pub HasRoom : View → Region → ℕ → Type 0
 HasRoom v r n = items_of v.used r + n ≤ items_of v.shape r
 
+-- a map's array was handed out
+abbrev pub AreArraysThere : ℕ → Trail → Type 0
+AreArraysThere entries t = (m base : ℕ) → base_in t m ≡ Some base → base + (array_in t m).capacity ≤ entries
+
 -- what holds of the words at every moment
 pub record IsHeap (v : View) : Type 0 where
   pub shape : IsShape v.shape
   pub lawful : Lawful v.shape v.trail
   pub used : AllWithin v.used v.trail
   pub most : (r : Region) → items_of v.used r ≤ items_of v.shape r
+  pub arrays : AreArraysThere v.used.entries v.trail
+
+-- a word of this kind, written for an item, leaves the array of a map among those that were handed out
+abbrev pub KeepsArrays : View → Kind → ℕ → ℕ → Type 0
+KeepsArrays v BaseOfMap m w = (base : ℕ) → optional_number w ≡ Some (Some base) → base + (array_in v.trail m).capacity ≤ v.used.entries
+KeepsArrays v ArrayOfMap m w = (a : ArrayWord) (base : ℕ) → array_of w ≡ Some a → base_in v.trail m ≡ Some base → base + a.capacity ≤ v.used.entries
+KeepsArrays v _ m w = Unit {0}
 
 -- the writer's board has these words, and its stores are these writes
 pub record IsDesk (v : View) (d : WriterState) : Type 0 where

@@ -28,8 +28,8 @@ fn is_accessor(kind: Kind) -> bool
     }
 }
 
-/// The key of a word that is one.
-pub(crate) fn key_of_word(word: u64) -> Option<Key>
+/// The key of a word that is one; none for another.
+pub fn key_of_word(word: u64) -> Option<Key>
     ensures { result ≡ key_read word }
 {
     let key = KeyWord::unpack(word)?;
@@ -53,8 +53,8 @@ pub(crate) fn word_of_key(key: Key) -> u64
     word.pack()
 }
 
-/// The number or none of a word that is written once.
-pub(crate) fn settled(word: u64) -> Option<Option<u32>>
+/// The number, or that there is none, of a word that is written once; none before it is.
+pub fn settled(word: u64) -> Option<Option<u32>>
     ensures { result ≡ settled_number word }
 {
     Some(SettledWord::unpack(word)?.number)
@@ -66,8 +66,8 @@ pub(crate) fn settled_word(number: Option<u32>) -> u64
     SettledWord { number }.pack()
 }
 
-/// The number or none of a word that is none from the start.
-pub(crate) fn optional(word: u64) -> Option<Option<u32>>
+/// The number, or that there is none, of a word that says so from the start.
+pub fn optional(word: u64) -> Option<Option<u32>>
     ensures { result ≡ optional_number word }
 {
     Some(NumberWord::unpack(word)?.number)
@@ -79,8 +79,8 @@ pub(crate) fn optional_word(number: Option<u32>) -> u64
     NumberWord { number }.pack()
 }
 
-/// The number of a word that is written once.
-pub(crate) fn number(word: u64) -> Option<u32>
+/// The number of a word that is written once; none before it is.
+pub fn number(word: u64) -> Option<u32>
     ensures { result ≡ number_read word }
 {
     NumberWord::unpack(word)?.number

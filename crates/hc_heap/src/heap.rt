@@ -9,7 +9,7 @@ ghost use Rattle.hc_heap.specs.Kinds.{region_of};
 ghost use Rattle.hc_heap.specs.Decode.{written};
 ghost use Rattle.hc_heap.specs.Lawful.{LawfulWrite, AllWithin};
 ghost use Rattle.hc_heap.specs.Said.{Says};
-ghost use Rattle.hc_heap.specs.States.{IsWords, IsHeap, IsDesk, OneStore, Goes, HasRoom, one_load, with_write, with_items, with_met, no_items};
+ghost use Rattle.hc_heap.specs.States.{IsWords, IsHeap, IsDesk, KeepsArrays, OneStore, Goes, HasRoom, one_load, with_write, with_items, with_met, no_items};
 
 use crate::kind::Kind;
 use crate::pace::Pace;
@@ -66,6 +66,7 @@ impl<P: Pace> Heap<P> {
     pub(crate) fn put(&mut self, kind: Kind, item: u32, word: u64)
         requires handed { item < items_of self.old.view.used (region_of kind) }
         requires lawful { LawfulWrite self.old.view.shape self.old.view.trail (written kind item word) }
+        requires arrays { KeepsArrays self.old.view kind item word }
         ensures view { self.new.view ≡ with_write self.old.view (written kind item word) }
         ensures heap { IsHeap self.new.view }
         ensures one { OneStore self.old.desk self.new.desk }

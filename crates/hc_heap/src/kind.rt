@@ -5,7 +5,7 @@ ghost use Rattle.hc_heap.specs.Kinds.{place_at, region_of, word_of};
 use hc_layout::{Place, Region};
 
 /// A word of an item, by what it is for.
-#[derive(Clone, Copy, Debug, PartialEq, Eq)]
+#[derive(Clone, Copy)]
 pub enum Kind {
     GateOfMap,
     ParentOfMap,

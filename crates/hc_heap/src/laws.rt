@@ -1,5 +1,5 @@
 //! What a lawful trail keeps for good. The functions do nothing: each has a law as its contract, for a proof that calls it.
-ghost use Rattle.hc_heap.specs.Kept.{LawfulAtEach, PositionsGoOn, PositionsAreStores, WrittenIsKept, SetIsKept, EntriesAreKept, DetailsRise, StableIsKept, GatesAreOpen, FormsAreKept, StoresAreWrites, WordsSay, UnusedSaysNothing};
+ghost use Rattle.hc_heap.specs.Kept.{LawfulAtEach, PositionsGoOn, PositionsAreStores, WrittenIsKept, SetIsKept, DeprecatedAreUnstable, EntriesAreKept, DetailsRise, StableIsKept, StoresGrow, GatesAreOpen, FormsAreKept, StoresAreWrites, WordsSay, UnusedSaysNothing, WritesAreWithin};
 
 use hc_layout::{places_are_found, places_lie};
 
@@ -23,6 +23,10 @@ pub fn set_is_kept()
     ensures law { SetIsKept }
 {}
 
+pub fn deprecated_are_unstable()
+    ensures law { DeprecatedAreUnstable }
+{}
+
 pub fn entries_are_kept()
     ensures law { EntriesAreKept }
 {}
@@ -33,6 +37,10 @@ pub fn details_rise()
 
 pub fn stable_is_kept()
     ensures law { StableIsKept }
+{}
+
+pub fn stores_grow()
+    ensures law { StoresGrow }
 {}
 
 pub fn gates_are_open()
@@ -56,4 +64,8 @@ pub fn words_say()
 
 pub fn unused_says_nothing()
     ensures law { UnusedSaysNothing }
+{}
+
+pub fn writes_are_within()
+    ensures law { WritesAreWithin }
 {}

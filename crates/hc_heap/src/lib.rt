@@ -12,15 +12,14 @@ mod pace;
 mod space;
 mod words;
 
+pub use codes::{key_of_word, number, optional, settled};
 pub use heap::Heap;
 pub use kind::Kind;
 pub use laws::{
-    details_rise, entries_are_kept, forms_are_kept, gates_are_open, lawful_at_each,
-    positions_are_stores, positions_go_on, set_is_kept, stable_is_kept, stores_are_writes,
-    unused_says_nothing, words_say, written_is_kept,
+    deprecated_are_unstable, details_rise, entries_are_kept, forms_are_kept, gates_are_open,
+    lawful_at_each, positions_are_stores, positions_go_on, set_is_kept, stable_is_kept,
+    stores_are_writes, stores_grow, unused_says_nothing, words_say, writes_are_within,
+    written_is_kept,
 };
 pub use pace::{Free, Pace};
 pub use space::Space;
-
-#[cfg(test)]
-mod tests;

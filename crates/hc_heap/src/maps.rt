@@ -1,5 +1,5 @@
 //! The words of maps.
-ghost use Rattle.std.specs.Prelude.{◌≡◌, ◌<◌};
+ghost use Rattle.std.specs.Prelude.{◌≡◌, ◌+◌, ◌<◌, ◌≤◌, IfSome};
 ghost use Rattle.hc_heap.specs.Writes.{Gate, Parent, Prototype, Bits, Base, Array, Head};
 ghost use Rattle.hc_heap.specs.Readings.{gate_in, parent_in, prototype_in, bits_in, base_in, array_in, head_in};
 ghost use Rattle.hc_heap.specs.Lawful.{LawfulGate, LawfulParent, LawfulPrototype, LawfulBits, LawfulBase, LawfulArray, LawfulHead};
@@ -123,10 +123,11 @@ impl<P: Pace> Heap<P> {
         }
     }
 
-    /// Moves a map to other entries; an open one to entries that are the same.
+    /// Moves a map to other entries; an open one to entries that are the same. Its array was handed out.
     pub fn set_base(&mut self, map: u32, base: Option<u32>)
         requires handed { map < self.old.view.used.maps }
         requires lawful { LawfulBase self.old.view.shape self.old.view.trail map base }
+        requires array { IfSome base (λ b. b + (array_in self.old.view.trail map).capacity ≤ self.old.view.used.entries) }
         ensures view { self.new.view ≡ with_write self.old.view (Base map base) }
         ensures heap { IsHeap self.new.view }
         ensures one { OneStore self.old.desk self.new.desk }
@@ -152,10 +153,11 @@ impl<P: Pace> Heap<P> {
         }
     }
 
-    /// Writes the array of a map.
+    /// Writes the array of a map, which was handed out.
     pub fn set_array(&mut self, map: u32, array: ArrayWord)
         requires handed { map < self.old.view.used.maps }
         requires lawful { LawfulArray self.old.view.shape self.old.view.trail map array }
+        requires there { IfSome (base_in self.old.view.trail map) (λ b. b + array.capacity ≤ self.old.view.used.entries) }
         ensures view { self.new.view ≡ with_write self.old.view (Array map array) }
         ensures heap { IsHeap self.new.view }
         ensures one { OneStore self.old.desk self.new.desk }

@@ -31,7 +31,7 @@ pub trait Pace: Drop {
 }
 
 /// Does nothing.
-#[derive(Clone, Copy, Debug, PartialEq, Eq, Drop)]
+#[derive(Clone, Copy, Drop)]
 pub struct Free;
 
 impl Pace for Free {

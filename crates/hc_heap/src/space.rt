@@ -1,3 +1,3 @@
 /// There was no room: some region has fewer items left than were needed.
-#[derive(Clone, Copy, Debug, PartialEq, Eq)]
+#[derive(Clone, Copy, PartialEq, Eq)]
 pub struct Space;

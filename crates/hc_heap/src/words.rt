@@ -9,7 +9,7 @@ ghost use Rattle.hc_heap.specs.Kinds.{region_of, place_at};
 ghost use Rattle.hc_heap.specs.Decode.{written};
 ghost use Rattle.hc_heap.specs.Lawful.{LawfulWrite};
 ghost use Rattle.hc_heap.specs.Said.{word_in, Says};
-ghost use Rattle.hc_heap.specs.States.{IsWords, IsHeap, OneStore, Extends, HasRoom, one_load, with_write, with_items, with_met, no_items};
+ghost use Rattle.hc_heap.specs.States.{IsWords, IsHeap, KeepsArrays, OneStore, Extends, HasRoom, one_load, with_write, with_items, with_met, no_items};
 
 use crate::kind::Kind;
 use crate::pace::Pace;
@@ -94,6 +94,7 @@ impl Words {
     pub(crate) fn store(&mut self, kind: Kind, item: u32, word: u64)
         requires handed { item < items_of self.old.view.used (region_of kind) }
         requires lawful { LawfulWrite self.old.view.shape self.old.view.trail (written kind item word) }
+        requires arrays { KeepsArrays self.old.view kind item word }
         ensures view { self.new.view ≡ with_write self.old.view (written kind item word) }
         ensures one { OneStore self.old.desk self.new.desk }
         ensures words { IsWords self.new.view self.new.desk }

@@ -19,6 +19,3 @@ pub use words::{
     ATTRIBUTE_BITS, ArrayWord, COUNT_BITS, CellWord, GateWord, KeyWord, MapBits, NAME_BITS,
     NUMBER_BITS, NumberWord, RootWord, SLOT_BITS, SettledWord, StoreWord,
 };
-
-#[cfg(test)]
-mod tests;

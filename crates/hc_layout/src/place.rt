@@ -6,7 +6,7 @@ ghost use Rattle.hc_layout.specs.Place.{IsPlace, index_of, place_of, region_of};
 use crate::shape::{Region, Shape};
 
 /// A word of an item of a region.
-#[derive(Clone, Copy, Debug, PartialEq, Eq)]
+#[derive(Clone, Copy)]
 pub struct Place {
     pub region: Region,
     pub item: u32,

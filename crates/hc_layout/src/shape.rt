@@ -3,7 +3,7 @@ ghost use Rattle.std.specs.Prelude.{◌≡◌, ◌*◌, ◌<◌, ◌≤◌, ◌�
 ghost use Rattle.hc_layout.specs.Shape.{IsShape, items_of, item_words, start_of, words_of};
 
 /// The regions of the board, in the order in which they lie on it.
-#[derive(Clone, Copy, Debug, PartialEq, Eq)]
+#[derive(Clone, Copy)]
 pub enum Region {
     Maps,
     Entries,
@@ -32,7 +32,7 @@ impl Region {
 }
 
 /// How many items each region of a board has.
-#[derive(Clone, Copy, Debug, PartialEq, Eq)]
+#[derive(Clone, Copy)]
 pub struct Shape {
     pub maps: u32,
     pub entries: u32,

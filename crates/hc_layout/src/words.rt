@@ -141,7 +141,7 @@ fn stand_for(number: Option<u32>) -> u64
 }
 
 /// The word that opens a map: how many entries it has, and what it is.
-#[derive(Clone, Copy, Debug, PartialEq, Eq)]
+#[derive(Clone, Copy)]
 pub struct GateWord {
     pub entries: u32,
     pub is_private: bool,
@@ -178,7 +178,7 @@ impl GateWord {
 }
 
 /// What may happen to a map once it is open.
-#[derive(Clone, Copy, Debug, PartialEq, Eq)]
+#[derive(Clone, Copy)]
 pub struct MapBits {
     pub unstable: bool,
     pub deprecated: bool,
@@ -206,7 +206,7 @@ impl MapBits {
 }
 
 /// Whether a map owns the array of its entries, and how many entries the array has room for.
-#[derive(Clone, Copy, Debug, PartialEq, Eq)]
+#[derive(Clone, Copy)]
 pub struct ArrayWord {
     pub owner: bool,
     pub capacity: u32,
@@ -237,7 +237,7 @@ impl ArrayWord {
 
 /// The key of an entry or of a link. `hc_heap` turns it into a key of values: kind and attributes are
 /// numbers here, since this crate stands on no other.
-#[derive(Clone, Copy, Debug, PartialEq, Eq)]
+#[derive(Clone, Copy)]
 pub struct KeyWord {
     pub is_accessor: bool,
     pub attributes: u32,
@@ -276,7 +276,7 @@ impl KeyWord {
 }
 
 /// Whether an object is or was a prototype, and the root of the maps whose prototype it is.
-#[derive(Clone, Copy, Debug, PartialEq, Eq)]
+#[derive(Clone, Copy)]
 pub struct RootWord {
     pub is_proto: bool,
     pub map: Option<u32>,
@@ -306,7 +306,7 @@ impl RootWord {
 }
 
 /// How many slots an object has, and the first of them.
-#[derive(Clone, Copy, Debug, PartialEq, Eq)]
+#[derive(Clone, Copy)]
 pub struct StoreWord {
     pub capacity: u32,
     pub first: Option<u32>,
@@ -338,7 +338,7 @@ impl StoreWord {
 }
 
 /// The validity cell of an object's chain.
-#[derive(Clone, Copy, Debug, PartialEq, Eq)]
+#[derive(Clone, Copy)]
 pub struct CellWord {
     pub invalid: bool,
     pub object: u32,
@@ -370,7 +370,7 @@ impl CellWord {
 }
 
 /// A number or none: 0 for none, else the number + 1. So a number that is written once is none before.
-#[derive(Clone, Copy, Debug, PartialEq, Eq)]
+#[derive(Clone, Copy)]
 pub struct NumberWord {
     pub number: Option<u32>,
 }
@@ -400,7 +400,7 @@ impl NumberWord {
 }
 
 /// A number or none, written once: 1 for none, else the number + 2.
-#[derive(Clone, Copy, Debug, PartialEq, Eq)]
+#[derive(Clone, Copy)]
 pub struct SettledWord {
     pub number: Option<u32>,
 }

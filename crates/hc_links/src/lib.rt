@@ -9,6 +9,3 @@ pub use laws::{
     children_are_open, heads_are_there, linked_are_unstable, linked_is_newest, links_are_chained,
     links_are_kept, links_lead, same_keys_are_equal,
 };
-
-#[cfg(test)]
-mod tests;

@@ -143,6 +143,3 @@ impl Names {
         Ok(n)
     }
 }
-
-#[cfg(test)]
-mod tests;

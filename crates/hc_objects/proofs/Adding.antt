@@ -92,7 +92,7 @@ module _ (v : View) (kept : List (Option Dictionary)) (of_null : Option ℕ) (h 
       ∙ sym (ap (λ (ps : List Prop). place_of ps name) (props-are v kept of_null h o there fast)) ∙ absent in
       let key = some-and (key_at v.trail so.map k) (λ key. IsSomeAnd (field_at v.trail so.map k) (λ f. IsSomeAnd (detail_in v.trail f) (λ d. IsFormOf key.kind d.rep (slot_word v.trail o k)))) (so.fast.holds.slots k lt) in
       let field = some-and (field_at v.trail so.map k) (λ f. IsSomeAnd (detail_in v.trail f) (λ d. IsFormOf key.0.kind d.rep (slot_word v.trail o k))) key.1.1 in
-      let admits : detail_at v.trail so.map k ≡ Some tagged_field = ap (detail_of v.trail) field.1.0 ∙ (h.tree.maps so.map so.gate so.fast.is_open).tagged k field.0 lt field.1.0 in
+      let admits : detail_at v.trail so.map k ≡ Some tagged_field = ap (detail_of v.trail) field.1.0 ∙ (let d = some-and (detail_in v.trail field.0) (λ d. IsFormOf key.0.kind d.rep (slot_word v.trail o k)) field.1.1 in d.1.0 ∙ ap (λ (x : Detail). Some x) (h.tree.plain field.0 d.0 d.1.0)) in
       let named : (prop_in v.trail o so.map k).name ≡ key.0.name =
       ap (λ (x : Option Key). (prop_of x (detail_at v.trail so.map k) (slot_word v.trail o k)).name) key.1.0
       ∙ ap (λ (d : Option Detail). (prop_of (Some key.0) d (slot_word v.trail o k)).name) admits in

@@ -8,28 +8,35 @@ use Rattle.hc_heap.specs.Readings.{root_in}
 use Rattle.hc_value.specs.declared.prop.Prop.{Prop}
 use Rattle.hc_value.specs.declared.reply.Cause.{Cause}
 use Rattle.hc_value.specs.declared.reply.Cause.TheVariants.{Many, Space}
-use Rattle.hc_tree.specs.Needs.{HasSpace, no_need}
+use Rattle.hc_tree.specs.Needs.{HasSpace}
 use Rattle.hc_table.specs.Changes.{Moved, Added}
 use Rattle.hc_table.specs.World.{props_at}
 use Rattle.hc_objects.specs.Changes.{KeptBut}
 use Rattle.hc_objects.specs.Meaning.{Dictionary, cause_in, kept_of}
-use Rattle.hc_objects.specs.State.{ObjectsState}
+use Rattle.hc_objects.specs.Rest.{Marks}
+use Rattle.hc_objects.specs.State.{ObjectsState, IsObjects}
 use Rattle.hc_objects.specs.Modes.{Becomes, StaysFast, IsOne, IsWithin, add_need, if_many}
-use Rattle.hc_objects.specs.Came.{Steps, Made, world_of}
-use Rattle.hc_objects.proofs.Composing.{left-one, left-slow, slow-one, all-stay, cause-but, no-cause, protos-same}
+use Rattle.hc_objects.specs.Came.{Steps, HasLeft, MayLeave, Made, world_of}
+use Rattle.hc_objects.proofs.Composing.{left-one, slow-one, all-stay, cause-but, no-cause}
 use Rattle.hc_objects.proofs.Needing.{within-same}
 
 module _ {P : Type 0} (went : P → List Access → List Access → P → Type 0) where
-  -- a fast object became slow, and nothing else was done
-  pub left-moved : (a b : ObjectsState P) (o : ℕ) → Steps went a Moved b → kept_of a.kept o ≡ None → KeptBut o a.kept b.kept → b.heap.view.used ≡ a.heap.view.used → ((q : ℕ) → (root_in b.heap.view.trail q).is_proto ≡ (root_in a.heap.view.trail q).is_proto) → Made went a Moved b
-  left-moved a b o steps fast but used protos = record {
+  -- a fast object that was to get a property became slow
+  pub left-lawful : (a b : ObjectsState P) (o : ℕ) (cause : Cause) → Steps went a Moved b → kept_of a.kept o ≡ None → MayLeave a o cause → cause_in b.kept o ≡ Some cause → KeptBut o a.kept b.kept → b.heap.view.used ≡ a.heap.view.used
+      → ((q : ℕ) → (root_in b.heap.view.trail q).is_proto ≡ (root_in a.heap.view.trail q).is_proto) → Marks a.heap.view.trail b.heap.view.trail o → IsObjects b.heap.view b.kept b.of_null → HasLeft went a o cause b
+  left-lawful a b o cause steps fast why slow but used protos marks sound = record {
     steps = steps;
-    modes = left-slow a b o fast but;
-    needs = within-same no_need a.heap.view.used b.heap.view.used used;
-    protos = protos-same a.heap.view.trail b.heap.view.trail Moved (λ p names. names) protos;
+    fast = no-cause a.kept o fast;
+    why = why;
+    slow = slow;
+    used = used;
+    protos = protos;
+    others = λ q other. cause-but a.kept b.kept o q but other;
+    lawful = sound.heap.lawful;
+    marks = marks;
   }
 
-  module _ (a b : ObjectsState P) (o : ℕ) (p : Prop) (steps : Steps went a (Added o p) b) (protos : (q : ℕ) → (root_in b.heap.view.trail q).is_proto ≡ (root_in a.heap.view.trail q).is_proto) where
+  module _ (a b : ObjectsState P) (o : ℕ) (p : Prop) (steps : Steps went a (Added o p) b) (protos : (q : ℕ) → (root_in b.heap.view.trail q).is_proto ≡ (root_in a.heap.view.trail q).is_proto) (marks : Marks a.heap.view.trail b.heap.view.trail o) where
     n : ℕ
     n = length (props_at (world_of a) o)
 
@@ -41,7 +48,8 @@ module _ {P : Type 0} (went : P → List Access → List Access → P → Type 0
       steps = steps;
       modes = modes;
       needs = needs;
-      protos = protos-same a.heap.view.trail b.heap.view.trail (Added o p) (λ q names. names) protos;
+      protos = protos;
+      marks = marks;
     }
 
     few-none : length (props_at (world_of a) o) < MAX_FAST → if_many (length (props_at (world_of a) o)) ≡ None

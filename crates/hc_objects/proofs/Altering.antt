@@ -1,21 +1,24 @@
 -- What becomes of an object by one change, fast or slow.
-use Rattle.std.proofs.Common.{◌≡◌, ℕ, Bool, false, List, Option, Some, None, IsSome, set, refl, sym, ap, ◌∙◌}
-use Rattle.std.specs.Prelude.{IsTrue, option_map, slice_get}
+use Rattle.std.proofs.Common.{◌≡◌, ◌≢◌, ℕ, zero, suc, ◌<◌, Bool, false, List, [], ◌∷◌, Option, Some, None, IsSome, length, set, refl, sym, ap, ◌∙◌, subst, arith}
+use Rattle.std.specs.Prelude.{IsTrue, option_map, slice_get, ⊤}
 use Rattle.std.specs.Option.{is_some}
 use Rattle.hc_board.specs.Trail.{Access}
 use Rattle.hc_value.specs.Prop.{kind_of}
 use Rattle.hc_value.specs.declared.key.Key.{Key}
 use Rattle.hc_value.specs.declared.prop.Prop.{Prop}
+use Rattle.hc_value.specs.declared.reply.Cause.TheVariants.{Reconfigured}
 use Rattle.hc_heap.specs.Readings.{root_in}
 use Rattle.hc_heap.specs.States.{HeapState}
-use Rattle.hc_table.specs.Changes.{Did, Moved, kind_at, with_property}
+use Rattle.hc_table.specs.Changes.{Did, Moved, Reconfigured as Put, kind_at, name_at, with_property}
 use Rattle.hc_table.specs.World.{World, object, props_at, with_list, with_written, holding, held_at}
 use Rattle.hc_objects.specs.Changes.{key_of}
 use Rattle.hc_objects.specs.Meaning.{Dictionary}
-use Rattle.hc_objects.specs.Modes.{Modes, Names, need_of}
+use Rattle.hc_objects.specs.Modes.{AllStay, IsOne, IsReconfigured, Modes, need_of}
 use Rattle.hc_objects.specs.State.{ObjectsState}
-use Rattle.hc_objects.specs.Came.{Steps, Made}
-use Rattle.hc_objects.proofs.Composing.{steps-on, protos-same}
+use Rattle.hc_objects.specs.Came.{IsStill, Steps, Made, MarksOf, world_of}
+use Rattle.hc_objects.proofs.Composing.{all-stay, steps-on, still-steps}
+use Rattle.hc_objects.proofs.Left.{set-object}
+use Rattle.hc_objects.proofs.Marking.{words-marks}
 use Rattle.hc_objects.proofs.Needing.{within-same}
 use Rattle.hc_objects.proofs.Slowed.{held-set}
 
@@ -49,33 +52,75 @@ put-by ps i p None at e = let n : ⊥ = cc in absurd n
 pub put-same : (w : World) (o i : ℕ) (p : Prop) → option_map key_of (slice_get (props_at w o) i) ≡ Some (key_of p) → with_property w o i p ≡ with_written w o i p.held
 put-same w o i p e = ap (λ (ps : List Prop). set w o (with_list (object w o) ps)) (put-by (props_at w o) i p (slice_get (props_at w o) i) refl e)
 
+-- a property that is put in its own place
+set-itself : (ps : List Prop) (i : ℕ) (p : Prop) → slice_get ps i ≡ Some p → set ps i p ≡ ps
+set-itself [] i p e = refl
+set-itself (q ∷ ps) zero p e = let same : q ≡ p = cc in ap (λ (x : Prop). x ∷ ps) (sym same)
+set-itself (q ∷ ps) (suc i) p e = ap (λ (xs : List Prop). q ∷ xs) (set-itself ps i p e)
+
+put-itself : (w : World) (o i : ℕ) (p : Prop) → o < length w → slice_get (props_at w o) i ≡ Some p → with_property w o i p ≡ w
+put-itself w o i p there e =
+    ap (λ (ps : List Prop). set w o (with_list (object w o) ps)) (set-itself (props_at w o) i p e)
+    ∙ set-object w o (object w o) there refl
+
+-- a property that is given a name is there
+pub named-there : (ps : List Prop) (i name : ℕ) → name_at ps i ≡ Some name → i < length ps
+named-there [] i name e = let f : ⊥ = cc in absurd f
+named-there (q ∷ ps) zero name e = omega arith
+named-there (q ∷ ps) (suc i) name e = let lt : i < length ps = named-there ps i name e in omega (arith, lt)
+
+-- the modes after another property was put in the place of one
+pub reconfigured-by : {P : Type 0} (a b : ObjectsState P) (o i : ℕ) (p : Prop) → slice_get (props_at (world_of a) o) i ≢ Some p
+    → (option_map key_of (slice_get (props_at (world_of a) o) i) ≡ Some (key_of p) → AllStay a b)
+    → (option_map key_of (slice_get (props_at (world_of a) o) i) ≢ Some (key_of p) → IsOne a o (Some Reconfigured) ⊤ b) → IsReconfigured a o i p b
+reconfigured-by {P} a b o i p differs same other = record { same = same; other = other; none = λ e. absurd (differs e) }
+
 -- what was done, with its modes
 
 module _ {P : Type 0} (went : P → List Access → List Access → P → Type 0) where
   -- the words stay
-  pub slow-made : (a b : ObjectsState P) (did : Did) → ((p : ℕ) → Names did p → ⊥) → Steps went a did b → b.heap ≡ a.heap → Modes a did b → Made went a did b
-  slow-made a b did none steps heap modes = record {
+  pub slow-made : (a b : ObjectsState P) (did : Did) → Steps went a did b → b.heap ≡ a.heap → Modes a did b → Made went a did b
+  slow-made a b did steps heap modes = record {
     steps = steps;
     modes = modes;
     needs = within-same (need_of a did) a.heap.view.used b.heap.view.used (ap (λ (h : HeapState P). h.view.used) heap);
-    protos = protos-same a.heap.view.trail b.heap.view.trail did none (λ p. ap (λ (h : HeapState P). (root_in h.view.trail p).is_proto) heap);
+    protos = λ p. ap (λ (h : HeapState P). (root_in h.view.trail p).is_proto) heap;
+    marks = words-marks a.heap.view.trail b.heap.view.trail did (ap (λ (h : HeapState P). h.view.trail) heap);
   }
 
   -- nothing is handed out
-  pub fast-made : (a b : ObjectsState P) (did : Did) → ((p : ℕ) → Names did p → ⊥) → Steps went a did b → b.heap.view.used ≡ a.heap.view.used → ((p : ℕ) → (root_in b.heap.view.trail p).is_proto ≡ (root_in a.heap.view.trail p).is_proto) → Modes a did b → Made went a did b
-  fast-made a b did none steps used protos modes = record {
+  pub fast-made : (a b : ObjectsState P) (did : Did) → Steps went a did b → b.heap.view.used ≡ a.heap.view.used → ((p : ℕ) → (root_in b.heap.view.trail p).is_proto ≡ (root_in a.heap.view.trail p).is_proto) → MarksOf did a.heap.view.trail b.heap.view.trail → Modes a did b → Made went a did b
+  fast-made a b did steps used protos marks modes = record {
     steps = steps;
     modes = modes;
     needs = within-same (need_of a did) a.heap.view.used b.heap.view.used used;
-    protos = protos-same a.heap.view.trail b.heap.view.trail did none protos;
+    protos = protos;
+    marks = marks;
   }
 
   -- an object leaves its map, and then the words stay
   pub left-made : ((a b c : P) (first second third : List Access) → went a first second b → went b second third c → went a first third c)
-      → (a b c : ObjectsState P) (did : Did) → ((p : ℕ) → Names did p → ⊥) → Steps went a Moved b → b.heap.view.used ≡ a.heap.view.used → ((p : ℕ) → (root_in b.heap.view.trail p).is_proto ≡ (root_in a.heap.view.trail p).is_proto)
-      → Steps went b did c → c.heap ≡ b.heap → Modes a did c → Made went a did c
-  left-made law a b c did none moved used protos steps heap modes =
-      fast-made a c did none (steps-on went law a b c did moved steps)
+      → (a b c : ObjectsState P) (did : Did) → Steps went a Moved b → b.heap.view.used ≡ a.heap.view.used → ((p : ℕ) → (root_in b.heap.view.trail p).is_proto ≡ (root_in a.heap.view.trail p).is_proto)
+      → MarksOf did a.heap.view.trail b.heap.view.trail → Steps went b did c → c.heap ≡ b.heap → Modes a did c → Made went a did c
+  left-made law a b c did moved used protos marks steps heap modes =
+      fast-made a c did (steps-on went law a b c did moved steps)
       (ap (λ (h : HeapState P). h.view.used) heap ∙ used)
       (λ p. ap (λ (h : HeapState P). (root_in h.view.trail p).is_proto) heap ∙ protos p)
+      (subst (λ (h : HeapState P). MarksOf did a.heap.view.trail h.view.trail) (sym heap) marks)
       modes
+
+  -- an equal property was put in the place of one: nothing is done
+  pub nothing-put : ((p : P) (t : List Access) → went p t t p) → (a b : ObjectsState P) (o i : ℕ) (p : Prop) → o < length (world_of a) → slice_get (props_at (world_of a) o) i ≡ Some p → IsStill a b → Made went a (Put o i p) b
+  nothing-put stays a b o i p there same still =
+      let moved = still-steps went stays a b still in
+      record {
+        steps = record { world = moved.world ∙ sym (put-itself (world_of a) o i p there same); shape = moved.shape; goes = moved.goes; went = moved.went };
+        modes = record {
+          same = λ e. all-stay a b (ap (λ (s : ObjectsState P). s.kept) still.is);
+          other = λ ne. absurd (ne (ap (option_map key_of) same));
+          none = λ e. ap (λ (s : ObjectsState P). s.heap.desk.trail) still.is;
+        };
+        needs = within-same (need_of a (Put o i p)) a.heap.view.used b.heap.view.used (ap (λ (s : ObjectsState P). s.heap.view.used) still.is);
+        protos = λ q. ap (λ (s : ObjectsState P). (root_in s.heap.view.trail q).is_proto) still.is;
+        marks = words-marks a.heap.view.trail b.heap.view.trail (Put o i p) (ap (λ (s : ObjectsState P). s.heap.view.trail) still.is);
+      }

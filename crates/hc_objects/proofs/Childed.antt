@@ -12,16 +12,18 @@ use Rattle.hc_heap.specs.Writes.{Write, Trail, ObjectMap, Root, Store, Slot}
 use Rattle.hc_heap.specs.Readings.{gate_in, parent_in, bits_in, map_in, root_in, store_in, slot_in}
 use Rattle.hc_heap.specs.Lawful.{Lawful, HoldsEntries, word_from}
 use Rattle.hc_heap.specs.Kept.{Adds, DetailsRise, UnusedSaysNothing}
-use Rattle.hc_heap.specs.Frames.{same-after, goes-on-of}
+use Rattle.hc_heap.specs.Frames.{adds-on, adds-wider, same-after, goes-on-of}
 use Rattle.hc_heap.specs.States.{View, IsHeap, HasRoom}
 use Rattle.hc_links.specs.Chains.{links_in, newest_of}
 use Rattle.hc_links.specs.Laws.{LinkedAreUnstable}
 use Rattle.hc_tree.specs.Tree.{IsTree, IsChildFor, gate_with, tagged_field}
 use Rattle.hc_tree.specs.Kept.{MapsAreKept}
 use Rattle.hc_tree.specs.Needs.{with_need}
-use Rattle.hc_tree.specs.Growth.{MakesMap, EndsWith, live_of, live_child, child_need}
+use Rattle.hc_tree.specs.Growth.{MakesMap, EndsWith, live_of, live_child, child_need, marked}
 use Rattle.hc_objects.specs.Meaning.{slot_word}
 use Rattle.hc_objects.specs.State.{IsFast, IsIn, Owns, AreHandedOut}
+use Rattle.hc_objects.specs.Rest.{MarksAt}
+use Rattle.hc_objects.proofs.Marking.{makes-at, marked-already}
 use Rattle.hc_objects.specs.Changes.{WordsStay, Changed, OpensNoRoot, IsGrown, key_of}
 use Rattle.hc_objects.specs.Filling.{IsMoved, slots_need, with_growth, with_slots}
 use Rattle.hc_objects.proofs.Rising.{some-of, not-both}
@@ -68,6 +70,17 @@ linked-by linked s t m c key lawful live [] e =
     let none : live_child t m key ≡ None = ap (λ (ls : List ℕ). live_of t (newest_of t ls key)) e in
     absurd (not-both (live_child t m key) c none live)
 linked-by linked s t m c key lawful live (l ∷ ls) e = linked s t m l ls lawful e
+
+-- whether the child was there or is made, the map is unstable first
+pub child-begins : LinkedAreUnstable → (v w : View) (m : ℕ) (key : Key) → IsHeap v → Adds (MakesMap v.used (Some m)) v.trail w.trail → (live_child v.trail m key ≡ None → Adds (MakesMap v.used (Some m)) (marked v.trail m) w.trail) → Adds (MarksAt m) (marked v.trail m) w.trail
+child-begins linked v w m key heap writes made = by (live_child v.trail m key) refl
+  where
+    its : (t : Trail) → Adds (MakesMap v.used (Some m)) t w.trail → Adds (MarksAt m) t w.trail
+    its t adds = adds-wider (makes-at v.used (Some m) m (λ x is. some-is x m (sym is))) adds
+
+    by : (l : Option ℕ) → live_child v.trail m key ≡ l → Adds (MarksAt m) (marked v.trail m) w.trail
+    by None e = its (marked v.trail m) (made e)
+    by (Some c) e = subst (λ (t : Trail). Adds (MarksAt m) t w.trail) (sym (marked-already v.trail m (linked-by linked v.shape v.trail m c key heap.lawful e (links_in v.trail m) refl))) (its v.trail writes)
 
 module _ (maps : MapsAreKept) (details : DetailsRise) (unused : UnusedSaysNothing) (linked : LinkedAreUnstable) (v w : View) (o m n c : ℕ) (p : Prop) (heap : IsHeap v) (it : IsChilded v w m n c (key_of p)) (is_open : gate_in v.trail m ≡ Some (gate_with n false)) where
   lawful-then : Lawful v.shape w.trail
@@ -173,8 +186,8 @@ module _ (maps : MapsAreKept) (details : DetailsRise) (unused : UnusedSaysNothin
         let up = some-of (parent_in w.trail k) (later-on.maps.opened k h e).parent in
         opens-here k h none e (ap (λ (y : GateWord). y.is_private) same ∙ shared) (up.1 ∙ sym (later-on.maps.written.parent k up.0 up.1) ∙ parent)
 
-    pub moved-on : IsMoved v x o m n p
-    moved-on = record {
+    pub moved-on : Adds (MarksAt m) (marked v.trail m) w.trail → IsMoved v x o m n p
+    moved-on begins = record {
       child = moved.child;
       changed = changed-on v w x o changed-here owns-here moved.changed;
       opens = λ k g none gate shared parent. opens-on k g gate shared parent none (gate_in w.trail k) refl;
@@ -189,4 +202,6 @@ module _ (maps : MapsAreKept) (details : DetailsRise) (unused : UnusedSaysNothin
       store = moved.store;
       owns = λ s owns lt. let later_lt : s < w.used.slots = omega (arith, lt, slots-same) in owns-here s (moved.owns s owns later_lt) lt;
       objects = moved.objects ∙ objects-same;
+      other = moved.other;
+      after = adds-on begins (subst (λ (t : Trail). Adds (MarksAt m) t x.trail) (marked-already w.trail m unstable-then) moved.after);
     }

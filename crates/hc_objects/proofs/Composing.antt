@@ -1,22 +1,19 @@
 -- How what was done to objects follows on what was done before.
-use Rattle.std.proofs.Common.{◌≡◌, ◌≢◌, ℕ, List, Option, Some, None, refl, sym, ap, ◌∙◌, subst}
-use Rattle.std.specs.Prelude.{IfSome, option_map}
+use Rattle.std.proofs.Common.{◌≡◌, ◌≢◌, ℕ, List, [], ◌∷◌, Option, Some, None, refl, sym, ap, ◌∙◌, subst, arith}
+use Rattle.std.specs.Prelude.{option_map}
 use Rattle.hc_board.specs.Trail.{Access}
 use Rattle.hc_value.specs.declared.reply.Cause.{Cause}
-use Rattle.hc_heap.specs.Writes.{Trail}
-use Rattle.hc_heap.specs.Readings.{root_in}
 use Rattle.hc_heap.specs.Frames.{goes-on, extends-none}
 use Rattle.hc_heap.specs.States.{Goes}
-use Rattle.hc_tree.specs.Needs.{no_need}
 use Rattle.hc_table.specs.Changes.{Did, Moved, after}
 use Rattle.hc_table.specs.World.{World}
 use Rattle.hc_objects.specs.Changes.{KeptBut}
 use Rattle.hc_objects.specs.Meaning.{Dictionary, cause_in, kept_of}
-use Rattle.hc_objects.specs.Modes.{IsOne, Becomes, SlowOnesStay, AllStay, Names, ProtosAfter}
+use Rattle.hc_objects.specs.Modes.{IsOne, Becomes, AllStay}
 use Rattle.hc_objects.specs.State.{ObjectsState}
-use Rattle.hc_objects.specs.Came.{IsStill, Steps, Made, world_of}
+use Rattle.hc_objects.specs.Came.{IsStill, Steps, Move, Left, HasLeft, AreMoves, Moves, Made, Effect, moves_before, world_of}
+use Rattle.hc_objects.specs.Laws.{still-refl}
 use Rattle.hc_objects.proofs.Sound.{same-or}
-use Rattle.hc_objects.proofs.Needing.{within-same}
 
 -- Steps
 
@@ -42,14 +39,6 @@ module _ {P : Type 0} (went : P → List Access → List Access → P → Type 0
 
 -- Modes
 
--- moves that leave the items as they are leave each object fast, or slow for its cause
-pub slow-stay : {P : Type 0} (a b : ObjectsState P) → AllStay a b → SlowOnesStay a b
-slow-stay {P} a b same = λ p. by p (cause_in a.kept p) refl
-  where
-    by : (p : ℕ) (was : Option Cause) → cause_in a.kept p ≡ was → IfSome was (λ c. cause_in b.kept p ≡ Some c)
-    by p (Some c) e = same p ∙ e
-    by p None e = tt
-
 -- the items stay
 pub all-stay : {P : Type 0} (a b : ObjectsState P) → b.kept ≡ a.kept → AllStay a b
 all-stay {P} a b same = λ p. ap (λ (kept : List (Option Dictionary)). cause_in kept p) same
@@ -68,14 +57,6 @@ but-on o a b c x y = record {
   others = λ p other. y.others p other ∙ x.others p other;
   there = λ p other lt. x.there p other (y.there p other lt);
 }
-
--- a fast object became slow
-pub left-slow : {P : Type 0} (a b : ObjectsState P) (o : ℕ) → kept_of a.kept o ≡ None → KeptBut o a.kept b.kept → SlowOnesStay a b
-left-slow {P} a b o fast but = λ p. by p (cause_in a.kept p) refl
-  where
-    by : (p : ℕ) (was : Option Cause) → cause_in a.kept p ≡ was → IfSome was (λ c. cause_in b.kept p ≡ Some c)
-    by p (Some c) e = cause-but a.kept b.kept o p but (λ is. let n : None ≡ Some c = sym (no-cause a.kept o fast) ∙ ap (λ (q : ℕ). cause_in a.kept q) (sym is) ∙ e in let f : ⊥ = cc in absurd f) ∙ e
-    by p None e = tt
 
 -- a fast object became slow for the cause that was given
 pub left-one : {P : Type 0} (a b : ObjectsState P) (o : ℕ) (cause : Cause) (room : Type 0) → kept_of a.kept o ≡ None → KeptBut o a.kept b.kept → cause_in b.kept o ≡ Some cause → IsOne a o (Some cause) room b
@@ -99,29 +80,17 @@ one-stays {P} a b o but same = λ p. same-or p o (cause_in b.kept p ≡ cause_in
     (λ is. ap (λ (q : ℕ). cause_in b.kept q) is ∙ same ∙ ap (λ (q : ℕ). cause_in a.kept q) (sym is))
     (λ other. cause-but a.kept b.kept o p but other)
 
--- Prototypes
+-- Moves and operations
 
--- an operation that names no object leaves which ones are prototypes
-pub protos-same : (old new : Trail) (did : Did) → ((p : ℕ) → Names did p → ⊥) → ((p : ℕ) → (root_in new p).is_proto ≡ (root_in old p).is_proto) → ProtosAfter old did new
-protos-same old new did none same = record {
-  named = λ p names. absurd (none p names);
-  others = λ p other. same p;
-}
+module _ {P : Type 0} (went : P → List Access → List Access → P → Type 0) where
+  -- nothing is no move
+  pub still-moves : (a b : ObjectsState P) → IsStill a b → Moves went a b
+  still-moves a b h = record { moves = []; few = omega arith; are = h }
 
--- the prototypes stay, and then an operation names some
-pub protos-on : (a b c : Trail) (did : Did) → ((p : ℕ) → (root_in b p).is_proto ≡ (root_in a p).is_proto) → ProtosAfter b did c → ProtosAfter a did c
-protos-on a b c did same h = record {
-  named = h.named;
-  others = λ p other. h.others p other ∙ same p;
-}
+  -- a fast object became slow, and nothing else was done
+  pub left-moves : (a b : ObjectsState P) (o : ℕ) (cause : Cause) → HasLeft went a o cause b → Moves went a b
+  left-moves a b o cause h = record { moves = Left o cause ∷ []; few = omega arith; are = (b, h, still-refl b) }
 
--- Nothing
-
--- nothing is a move that changes no mode, takes nothing, and makes no prototype
-pub still-moved : {P : Type 0} (went : P → List Access → List Access → P → Type 0) → ((p : P) (t : List Access) → went p t t p) → (a b : ObjectsState P) → IsStill a b → Made went a Moved b
-still-moved {P} went stays a b h = record {
-  steps = still-steps went stays a b h;
-  modes = slow-stay a b (all-stay a b (ap (λ (s : ObjectsState P). s.kept) h.is));
-  needs = within-same no_need a.heap.view.used b.heap.view.used (ap (λ (s : ObjectsState P). s.heap.view.used) h.is);
-  protos = protos-same a.heap.view.trail b.heap.view.trail Moved (λ p names. names) (λ p. ap (λ (s : ObjectsState P). (root_in s.heap.view.trail p).is_proto) h.is);
-}
+  -- an operation without a move before it
+  pub effect-alone : (a b : ObjectsState P) (did : Did) → moves_before a did ≡ [] → Made went a did b → Effect went a did b
+  effect-alone a b did none made = record { mid = a; moves = subst (λ (moves : List Move). AreMoves went a moves a) (sym none) (still-refl a); own = made }

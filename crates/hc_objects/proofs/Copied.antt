@@ -7,7 +7,9 @@ use Rattle.hc_layout.specs.declared.words.MapBits.{MapBits}
 use Rattle.hc_layout.specs.declared.words.StoreWord.{StoreWord}
 use Rattle.hc_heap.specs.Writes.{Write, Trail, Bits, Head}
 use Rattle.hc_heap.specs.Readings.{bits_in, map_in, root_in, slot_in, store_in}
-use Rattle.hc_heap.specs.Lawful.{Lawful, word_from}
+use Rattle.hc_value.specs.declared.field.Class.{Class}
+use Rattle.hc_value.specs.declared.field.Class.TheVariants.{Of, Any}
+use Rattle.hc_heap.specs.Lawful.{IsClassThere, Lawful, word_from}
 use Rattle.hc_heap.specs.Kept.{Adds, DetailsRise, UnusedSaysNothing}
 use Rattle.hc_heap.specs.Frames.{adds-none, adds-one, adds-on, adds-wider, same-after, goes-on-of}
 use Rattle.hc_heap.specs.States.{View, IsHeap}
@@ -23,6 +25,7 @@ use Rattle.hc_objects.specs.Changes.{Changed, OpensNoRoot}
 use Rattle.hc_objects.specs.Privates.{IsCopied}
 use Rattle.hc_objects.proofs.Childed.{map-by, store-by, slot-by, root-by}
 use Rattle.hc_objects.proofs.Staying.{IsLater, later}
+use Rattle.hc_objects.proofs.Marking.{makes-at}
 use Rattle.hc_objects.proofs.Steps.{bits-by, marked-unstable, opens-one, own-map, private-no-root}
 use Rattle.hc_objects.proofs.Touching.{map-made}
 
@@ -38,17 +41,21 @@ marked-is {T} reading t m same = by (bits_in t m).unstable
     by true = refl
     by false = same (unstable_bits t m)
 
-last-by : (t : Trail) (m : ℕ) (b : MapBits) (more : More) → IfSome more (λ e. MayBeLast t m e.0 e.1) → IfSome more (λ e. MayBeLast (Bits m b ∷ t) m e.0 e.1)
-last-by t m b (Some e) h = record { form = h.form; proper = h.proper; lacks = h.lacks; tagged = h.tagged }
-last-by t m b None h = h
+class-by : (s : Shape) (t : Trail) (m : ℕ) (b : MapBits) (k : Class) → IsClassThere s t k → IsClassThere s (Bits m b ∷ t) k
+class-by s t m b (Of x) h = h
+class-by s t m b Any h = h
+
+last-by : (s : Shape) (t : Trail) (m : ℕ) (b : MapBits) (more : More) → IfSome more (λ e. MayBeLast s t m e.0 e.1) → IfSome more (λ e. MayBeLast s (Bits m b ∷ t) m e.0 e.1)
+last-by s t m b (Some e) h = record { form = h.form; proper = h.proper; lacks = h.lacks; accessor = h.accessor; class = h.class; there = class-by s t m b e.1.class h.there; tagged = h.tagged }
+last-by s t m b None h = h
 
 -- an entry that may come after those of a map may do so once the map is unstable
-pub marked-last : (t : Trail) (m : ℕ) (more : More) → IfSome more (λ e. MayBeLast t m e.0 e.1) → IfSome more (λ e. MayBeLast (marked t m) m e.0 e.1)
-marked-last t m more h = by (bits_in t m).unstable
+pub marked-last : (s : Shape) (t : Trail) (m : ℕ) (more : More) → IfSome more (λ e. MayBeLast s t m e.0 e.1) → IfSome more (λ e. MayBeLast s (marked t m) m e.0 e.1)
+marked-last s t m more h = by (bits_in t m).unstable
   where
-    by : (b : Bool) → IfSome more (λ e. MayBeLast (cond b t (Bits m (unstable_bits t m) ∷ t)) m e.0 e.1)
+    by : (b : Bool) → IfSome more (λ e. MayBeLast s (cond b t (Bits m (unstable_bits t m) ∷ t)) m e.0 e.1)
     by true = h
-    by false = last-by t m (unstable_bits t m) more h
+    by false = last-by s t m (unstable_bits t m) more h
 
 marked-makes : (used : Shape) (t : Trail) (m : ℕ) → Adds (MakesMap used (Some m)) t (marked t m)
 marked-makes used t m = by (bits_in t m).unstable
@@ -85,6 +92,7 @@ copied-from unused fresh more proto v w m c it =
       copy = copy;
       own = own-map unused (record v { trail = marked v.trail m }) w.trail (copied_count more (count_of v.trail m)) it.before it.writes copy.gate;
       unstable = subst (λ (b : MapBits). IsTrue b.unstable) (sym (same-after (λ (t : Trail). bits_in t m) (bits-by v.used m) it.writes)) (marked-unstable v.trail m);
+      after = adds-wider (makes-at v.used None m (λ x e. let f : ⊥ = cc in absurd f)) it.writes;
       used = subst (λ (n : ℕ). w.used ≡ with_need (copy_need fresh more n) v.used) count it.used;
       shape = it.shape;
       tree = it.tree;

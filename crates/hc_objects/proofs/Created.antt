@@ -1,29 +1,32 @@
 -- An object is made in steps: it is slow at first, then its prototype becomes one, and then it comes to a root.
-use Rattle.std.proofs.Common.{◌≡◌, ◌≢◌, ℕ, zero, suc, ◌+◌, ◌<◌, false, List, [], ◌∷◌, ◌++◌, Option, Some, None, IfSome, length, refl, sym, ap, ◌∙◌, subst, arith}
+use Rattle.hc_objects.specs.Rest.{Marks}
+use Rattle.std.proofs.Common.{◌≡◌, ◌≢◌, ℕ, zero, suc, ◌+◌, ◌<◌, ◌≤◌, false, List, [], ◌∷◌, ◌++◌, Option, Some, None, IfSome, length, take, refl, sym, ap, ◌∙◌, subst, arith, length-append}
 use Rattle.std.specs.Prelude.{IsTrue, option_map}
 use Rattle.hc_board.specs.Trail.{Access}
 use Rattle.hc_layout.specs.declared.shape.Shape.{Shape}
 use Rattle.hc_value.specs.declared.reply.Cause.{Cause}
 use Rattle.hc_heap.specs.Writes.{Trail}
-use Rattle.hc_heap.specs.Readings.{root_in}
-use Rattle.hc_heap.specs.Frames.{goes-on}
+use Rattle.hc_heap.specs.Lawful.{Lawful}
+use Rattle.hc_heap.specs.Readings.{map_in, root_in}
+use Rattle.hc_heap.specs.Frames.{goes-none, goes-on}
 use Rattle.hc_heap.specs.States.{View}
 use Rattle.hc_tree.specs.declared.need.Need.{Need}
 use Rattle.hc_tree.specs.Growth.{MayBePrototype, root_of, root_need}
-use Rattle.hc_tree.specs.Needs.{HasSpace, no_need, with_need}
+use Rattle.hc_tree.specs.Needs.{HasSpace, with_need}
 use Rattle.hc_table.specs.Changes.{Did, Created, Moved, IsThere}
-use Rattle.hc_table.specs.World.{Object, World, new_object, object}
+use Rattle.hc_table.specs.World.{Object, World, new_object, object, with_object}
 use Rattle.hc_objects.specs.Becoming.{IsSpare}
-use Rattle.hc_objects.specs.Came.{IsStill, Made, Steps, world_of}
+use Rattle.hc_objects.specs.Came.{Effect, IsBecome, IsStill, Made, Steps, world_of, HasOwnCopy, HowBecame}
 use Rattle.hc_objects.specs.Creating.{IsBegun, IsEntered}
-use Rattle.hc_objects.specs.Inheriting.{IsNamedNow, IsSpareOf}
-use Rattle.hc_objects.specs.Laws.{steps-before}
-use Rattle.hc_objects.specs.Meaning.{Dictionary, cause_in, kept_of}
-use Rattle.hc_objects.specs.Modes.{Becomes, IsNamed, IsWithin, StaysFast, both, if_fast, if_named, named_need, need_of, proto_need}
+use Rattle.hc_objects.specs.Inheriting.{IsNamed, IsNamedNow, IsSpareOf, if_named, named_need}
+use Rattle.hc_objects.specs.Laws.{steps-before, still-refl}
+use Rattle.hc_objects.specs.Meaning.{Dictionary, cause_in, kept_of, object_at, object_shown}
+use Rattle.hc_objects.specs.Modes.{Becomes, IsWithin, StaysFast, if_fast, proto_need}
 use Rattle.hc_objects.specs.State.{ObjectsState}
 use Rattle.hc_objects.proofs.Composing.{cause-but}
-use Rattle.hc_objects.proofs.Needing.{IsAtMost, none-least, same-least}
-use Rattle.hc_objects.proofs.Worlds.{length-world}
+use Rattle.hc_objects.proofs.Sound.{below-or}
+use Rattle.hc_objects.proofs.Items.{kept-front, kept-past, length-front}
+use Rattle.hc_objects.proofs.Worlds.{length-world, object-world, world-same}
 
 -- Needs
 
@@ -33,71 +36,6 @@ space-less v k need h = record { maps = h.maps; entries = h.entries; fields = h.
 
 space-more : (v : View) (k : ℕ) (need : Need) → HasSpace v need → HasSpace (record v { used = record v.used { objects = k } }) need
 space-more v k need h = record { maps = h.maps; entries = h.entries; fields = h.fields; links = h.links; slots = h.slots }
-
--- one need after another
-module _ (v w : View) (j : ℕ) (first next : Need) (used : w.used ≡ with_need first (record v.used { objects = j })) (shape : w.shape ≡ v.shape) where
-  maps : w.used.maps ≡ v.used.maps + first.maps
-  maps = ap (λ (s : Shape). s.maps) used
-
-  entries : w.used.entries ≡ v.used.entries + first.entries
-  entries = ap (λ (s : Shape). s.entries) used
-
-  fields : w.used.fields ≡ v.used.fields + first.fields
-  fields = ap (λ (s : Shape). s.fields) used
-
-  links : w.used.links ≡ v.used.links + first.links
-  links = ap (λ (s : Shape). s.links) used
-
-  slots : w.used.slots ≡ v.used.slots + first.slots
-  slots = ap (λ (s : Shape). s.slots) used
-
-  of_maps : w.shape.maps ≡ v.shape.maps
-  of_maps = ap (λ (s : Shape). s.maps) shape
-
-  of_entries : w.shape.entries ≡ v.shape.entries
-  of_entries = ap (λ (s : Shape). s.entries) shape
-
-  of_fields : w.shape.fields ≡ v.shape.fields
-  of_fields = ap (λ (s : Shape). s.fields) shape
-
-  of_links : w.shape.links ≡ v.shape.links
-  of_links = ap (λ (s : Shape). s.links) shape
-
-  of_slots : w.shape.slots ≡ v.shape.slots
-  of_slots = ap (λ (s : Shape). s.slots) shape
-
-  both-of : HasSpace w next → HasSpace v (both first next)
-  both-of h = record {
-    maps = omega (arith, maps, of_maps, h.maps);
-    entries = omega (arith, entries, of_entries, h.entries);
-    fields = omega (arith, fields, of_fields, h.fields);
-    links = omega (arith, links, of_links, h.links);
-    slots = omega (arith, slots, of_slots, h.slots);
-  }
-
-  next-of : HasSpace v (both first next) → HasSpace w next
-  next-of h = record {
-    maps = omega (arith, maps, of_maps, h.maps);
-    entries = omega (arith, entries, of_entries, h.entries);
-    fields = omega (arith, fields, of_fields, h.fields);
-    links = omega (arith, links, of_links, h.links);
-    slots = omega (arith, slots, of_slots, h.slots);
-  }
-
-fast-least : (c : Option Cause) (need : Need) → IsAtMost (if_fast c need) need
-fast-least None need = same-least need
-fast-least (Some c) need = none-least need
-
-within-both : (s : Shape) (j : ℕ) (a b c d : Need) → IsAtMost a c → IsAtMost b d → IsWithin (both c d) s (with_need b (with_need a (record s { objects = j })))
-within-both s j a b c d x y = record {
-  maps = omega (arith, x.maps, y.maps);
-  entries = omega (arith, x.entries, y.entries);
-  fields = omega (arith, x.fields, y.fields);
-  links = omega (arith, x.links, y.links);
-  slots = omega (arith, x.slots, y.slots);
-  cells = refl;
-  rises = record { maps = omega arith; entries = omega arith; fields = omega arith; links = omega arith; slots = omega arith };
-}
 
 -- Modes
 
@@ -237,62 +175,171 @@ module _ {P : Type 0} (went : P → List Access → List Access → P → Type 0
             (omega (arith, lt, objects, is.number, length-world a.heap.view.trail a.kept), marked p refl)
         by None lt marked = tt
 
-    root-same : root_of c.heap.view.trail proto c.of_null ≡ root_of a.heap.view.trail proto a.of_null
-    root-same = by proto
-      where
-        by : (x : Option ℕ) → root_of c.heap.view.trail x c.of_null ≡ root_of a.heap.view.trail x a.of_null
-        by (Some p) = is.roots p
-        by None = is.null
+  -- the state as it is while the object that was made isn't counted
+  abbrev before : ℕ → ObjectsState P → ℕ → ObjectsState P
+  before n c objects = record {
+    heap = record c.heap { view = record c.heap.view { used = record c.heap.view.used { objects = objects } } };
+    kept = take n c.kept;
+    of_null = c.of_null;
+  }
 
-    abbrev root : Need
-    root = root_need (root_of a.heap.view.trail proto a.of_null)
+  -- an object was made that is slow
+  pub record IsMade (mid : ObjectsState P) (proto : Option ℕ) (o : ℕ) (c : ObjectsState P) : Type 0 where
+    pub number : o ≡ length mid.kept
+    pub steps : Steps went mid (Created proto) c
+    pub view : c.heap.view ≡ record mid.heap.view { used = record mid.heap.view.used { objects = o + 1 } }
+    pub null : c.of_null ≡ mid.of_null
+    pub causes : (q : ℕ) → q ≢ o → cause_in c.kept q ≡ cause_in mid.kept q
 
-    module _ (d : ObjectsState P) (entered : IsEntered went c o proto d) where
-      late-cause : (q : ℕ) → q ≢ o → cause_in d.kept q ≡ cause_in c.kept q
-      late-cause q other = cause-but c.kept d.kept o q entered.others other
+  -- and is fast then where there is room
+  pub entered-made : (mid c d : ObjectsState P) (proto : Option ℕ) (o : ℕ) → IsMade mid proto o c → IsEntered went c o proto d → Made went mid (Created proto) d
+  entered-made mid c d proto o made entered = record {
+    steps = steps-then mid c d (Created proto) made.steps entered.steps;
+    modes = record {
+      this = subst (λ (n : ℕ). StaysFast (HasSpace mid.heap.view root) (cause_in d.kept n)) made.number
+          (stays-alike (cause_in d.kept o) (HasSpace (record mid.heap.view { used = record mid.heap.view.used { objects = o + 1 } }) root) (HasSpace mid.heap.view root)
+          (space-less mid.heap.view (o + 1) root) (space-more mid.heap.view (o + 1) root) mode);
+      others = λ p lt. let other : p ≢ o = λ e. omega (arith, lt, e, made.number) in cause-but c.kept d.kept o p entered.others other ∙ made.causes p other;
+    };
+    needs = subst (λ (s : Shape). IsWithin root mid.heap.view.used s) (sym used) (by (cause_in d.kept o));
+    protos = λ q. entered.protos q ∙ ap (λ (v : View). (root_in v.trail q).is_proto) made.view;
+    marks = tt;
+  }
+    where
+      root : Need
+      root = root_need (root_of mid.heap.view.trail proto mid.of_null)
 
-      apart : (p : ℕ) → p < length (world_of a) → p ≢ o
-      apart p lt e = omega (arith, lt, e, length-world a.heap.view.trail a.kept, is.number)
+      same : root_need (root_of c.heap.view.trail proto c.of_null) ≡ root
+      same = ap (λ (v : View). root_need (root_of v.trail proto c.of_null)) made.view ∙ ap (λ (n : Option ℕ). root_need (root_of mid.heap.view.trail proto n)) made.null
 
-      named-then : (x : Option ℕ) → IsThere (world_of a) x → IsNamed a x c → IsNamed a x d
-      named-then (Some p) lt h = subst (λ (y : Option Cause). Becomes (cause_in a.kept p) None (HasSpace a.heap.view (proto_need a.heap.view.trail p)) y) (sym (late-cause p (apart p lt))) h
-      named-then None lt h = tt
+      mode : StaysFast (HasSpace (record mid.heap.view { used = record mid.heap.view.used { objects = o + 1 } }) root) (cause_in d.kept o)
+      mode = subst (λ (v : View). StaysFast (HasSpace v root) (cause_in d.kept o)) made.view (subst (λ (k : Need). StaysFast (HasSpace c.heap.view k) (cause_in d.kept o)) same entered.mode)
 
-      need-then : (x : Option ℕ) → IsThere (world_of a) x → named_need a x d ≡ named_need a x c
-      need-then (Some p) lt = ap (λ (y : Option Cause). if_fast y (proto_need a.heap.view.trail p)) (late-cause p (apart p lt))
-      need-then None lt = refl
-
-      least : (x : Option ℕ) → IsAtMost (named_need a x c) (if_named x (proto_need a.heap.view.trail))
-      least (Some p) = fast-least (cause_in c.kept p) (proto_need a.heap.view.trail p)
-      least None = same-least no_need
-
-      room : StaysFast (HasSpace a.heap.view (both (named_need a proto d) root)) (cause_in d.kept o)
-      room =
-          let mode : StaysFast (HasSpace c.heap.view root) (cause_in d.kept o) = subst (λ (x : Option ℕ). StaysFast (HasSpace c.heap.view (root_need x)) (cause_in d.kept o)) root-same entered.mode in
-          subst (λ (k : Need). StaysFast (HasSpace a.heap.view (both k root)) (cause_in d.kept o)) (sym (need-then proto there))
-          (stays-alike (cause_in d.kept o) (HasSpace c.heap.view root) (HasSpace a.heap.view (both (named_need a proto c) root))
-          (both-of a.heap.view c.heap.view (o + 1) (named_need a proto c) root is.used is.steps.shape)
-          (next-of a.heap.view c.heap.view (o + 1) (named_need a proto c) root is.used is.steps.shape)
-          mode)
-
-      used : d.heap.view.used ≡ with_need (if_fast (cause_in d.kept o) root) (with_need (named_need a proto c) (record a.heap.view.used { objects = o + 1 }))
+      used : d.heap.view.used ≡ with_need (if_fast (cause_in d.kept o) root) (record mid.heap.view.used { objects = o + 1 })
       used =
           entered.used
-          ∙ ap (λ (x : Option ℕ). with_need (if_fast (cause_in d.kept o) (root_need x)) c.heap.view.used) root-same
-          ∙ ap (λ (s : Shape). with_need (if_fast (cause_in d.kept o) root) s) is.used
+          ∙ ap (λ (k : Need). with_need (if_fast (cause_in d.kept o) k) c.heap.view.used) same
+          ∙ ap (λ (v : View). with_need (if_fast (cause_in d.kept o) root) v.used) made.view
 
-      pub created : Made went a (Created proto) d
-      created = record {
-        steps = steps-then a c d (Created proto) is.steps entered.steps;
-        modes = record {
-          named = named-then proto there is.named;
-          this = subst (λ (n : ℕ). StaysFast (HasSpace a.heap.view (both (named_need a proto d) root)) (cause_in d.kept n)) is.number room;
-          others = λ p lt unnamed. let other : p ≢ o = λ e. omega (arith, lt, e, is.number) in late-cause p other ∙ is.causes p other unnamed;
-        };
-        needs = subst (λ (s : Shape). IsWithin (need_of a (Created proto)) a.heap.view.used s) (sym used)
-            (within-both a.heap.view.used (o + 1) (named_need a proto c) (if_fast (cause_in d.kept o) root) (if_named proto (proto_need a.heap.view.trail)) root (least proto) (fast-least (cause_in d.kept o) root));
-        protos = record {
-          named = λ q e. entered.protos q ∙ is.marked q e;
-          others = λ q unnamed. entered.protos q ∙ is.protos q unnamed;
-        };
-      }
+      by : (now : Option Cause) → IsWithin root mid.heap.view.used (with_need (if_fast now root) (record mid.heap.view.used { objects = o + 1 }))
+      by None = record { maps = omega arith; entries = omega arith; fields = omega arith; links = omega arith; slots = omega arith; cells = refl; rises = record { maps = omega arith; entries = omega arith; fields = omega arith; links = omega arith; slots = omega arith } }
+      by (Some cause) = record { maps = omega arith; entries = omega arith; fields = omega arith; links = omega arith; slots = omega arith; cells = refl; rises = record { maps = omega arith; entries = omega arith; fields = omega arith; links = omega arith; slots = omega arith } }
+
+  module _ (stays : (p : P) (t : List Access) → went p t t p) (a c : ObjectsState P) (proto : Option ℕ) (o : ℕ) (there : IsThere (world_of a) proto) (is : IsReady a proto o c) where
+    abbrev mid : ObjectsState P
+    mid = before (length a.kept) c a.heap.view.used.objects
+
+    count : length a.kept ≤ length c.kept
+    count =
+        let was = length-world a.heap.view.trail a.kept in
+        let now = length-world c.heap.view.trail c.kept in
+        let grown = length-append (world_of a) (new_object proto ∷ []) in
+        let same : length (world_of c) ≡ length (world_of a ++ new_object proto ∷ []) = ap (λ (w : World). length w) is.steps.world in
+        omega (arith, was, now, grown, same)
+
+    items : length mid.kept ≡ length a.kept
+    items = length-front c.kept (length a.kept) count
+
+    cause-front : (q : ℕ) → q < length a.kept → cause_in mid.kept q ≡ cause_in c.kept q
+    cause-front q lt = ap (λ (d : Option Dictionary). option_map (λ x. x.cause) d) (kept-front c.kept (length a.kept) q lt)
+
+    cause-none : (kept : List (Option Dictionary)) (q : ℕ) → length kept ≤ q → cause_in kept q ≡ None
+    cause-none kept q past = ap (λ (d : Option Dictionary). option_map (λ x. x.cause) d) (kept-past kept q past)
+
+    object-same : (q : ℕ) → q < length a.kept → object_at c.heap.view.trail mid.kept q ≡ object_at a.heap.view.trail a.kept q
+    object-same q lt =
+        ap (λ (d : Option Dictionary). object_shown c.heap.view.trail q d (map_in c.heap.view.trail q)) (kept-front c.kept (length a.kept) q lt)
+        ∙ sym (object-world c.heap.view.trail c.kept q (omega (arith, lt, count)))
+        ∙ ap (λ (w : World). object w q) is.steps.world
+        ∙ object-before (world_of a) (new_object proto) q (let was = length-world a.heap.view.trail a.kept in omega (arith, lt, was))
+        ∙ object-world a.heap.view.trail a.kept q lt
+
+    world-mid : world_of mid ≡ world_of a
+    world-mid = world-same a.heap.view.trail c.heap.view.trail a.kept mid.kept items object-same
+
+    used-mid : mid.heap.view.used ≡ with_need (named_need a proto c) a.heap.view.used
+    used-mid = ap (λ (s : Shape). let r : Shape = record s { objects = a.heap.view.used.objects } in r) is.used
+
+    -- the object that was named is a prototype, before another is made
+    pub become-mid : (p : ℕ) → proto ≡ Some p → p < length a.kept → HowBecame a p mid → Lawful c.heap.view.shape c.heap.view.trail → IsBecome went a p mid
+    become-mid p names lt how lawful = record {
+      steps = record { world = world-mid; shape = is.steps.shape; goes = is.steps.goes; went = is.steps.went };
+      mode = subst (λ (x : Option Cause). Becomes (cause_in a.kept p) None (HasSpace a.heap.view (proto_need a.heap.view.trail p)) x) (sym (cause-front p lt))
+          (subst (λ (x : Option ℕ). IsNamed a x c) names is.named);
+      used = used-mid
+          ∙ ap (λ (x : Option ℕ). with_need (named_need a x c) a.heap.view.used) names
+          ∙ ap (λ (x : Option Cause). with_need (if_fast x (proto_need a.heap.view.trail p)) a.heap.view.used) (sym (cause-front p lt));
+      proto = is.marked p names;
+      protos = λ q other. is.protos q (λ e. let same : Some p ≡ Some q = sym names ∙ e in let f : q ≡ p = cc in other f);
+      others = λ q other. below-or q (length a.kept) (cause_in mid.kept q ≡ cause_in a.kept q)
+          (λ below. cause-front q below ∙ is.causes q (λ e. omega (arith, e, below, is.number)) (λ e. let same : Some p ≡ Some q = sym names ∙ e in let f : q ≡ p = cc in other f))
+          (λ past. cause-none mid.kept q (omega (arith, past, items)) ∙ sym (cause-none a.kept q past));
+      how = how;
+      lawful = lawful;
+    }
+
+    -- and then that is made
+    pub made-mid : (p : ℕ) → proto ≡ Some p → IsMade mid proto o c
+    made-mid p names = record {
+      number = is.number ∙ sym items;
+      steps = record {
+        world = is.steps.world ∙ ap (λ (w : World). with_object w proto) (sym world-mid);
+        shape = refl;
+        goes = goes-none c.heap.desk;
+        went = stays c.heap.pace c.heap.desk.trail;
+      };
+      view = ap (λ (n : ℕ). let v : View = record c.heap.view { used = record c.heap.view.used { objects = n } } in v) (ap (λ (s : Shape). s.objects) is.used);
+      null = refl;
+      causes = λ q other. below-or q (length a.kept) (cause_in c.kept q ≡ cause_in mid.kept q)
+          (λ below. sym (cause-front q below))
+          (λ past. cause-none c.kept q (omega (arith, past, full, other, is.number)) ∙ sym (cause-none mid.kept q (omega (arith, past, items))));
+    }
+      where
+        full : length c.kept ≡ length a.kept + 1
+        full =
+            let was = length-world a.heap.view.trail a.kept in
+            let now = length-world c.heap.view.trail c.kept in
+            let grown = length-append (world_of a) (new_object proto ∷ []) in
+            let same : length (world_of c) ≡ length (world_of a ++ new_object proto ∷ []) = ap (λ (w : World). length w) is.steps.world in
+            omega (arith, was, now, grown, same)
+
+  -- an object was made, after its prototype became one
+  module _ (stays : (p : P) (t : List Access) → went p t t p) (a b c d : ObjectsState P) (o : ℕ) (still : ObjectsState P) (is_still : IsStill a still) where
+    -- it became one as it would have while the object wasn't made
+    how-mid : (p : ℕ) → p < length a.kept → IsBegun went still (Some p) o b → HowBecame b p c → HowBecame a p (before (length a.kept) c a.heap.view.used.objects)
+    how-mid p lt begun how =
+        let view = begun-view a b (Some p) o still is_still begun in
+        let front = kept-front c.kept (length a.kept) p lt in
+        record {
+          marks = subst (λ (t : Trail). Marks t c.heap.view.trail p) (ap (λ (v : View). v.trail) view) how.marks;
+          owns = λ m has shared fast. owned p m (how.owns m (ap (λ (v : View). map_in v.trail p) view ∙ has) (ap (λ (v : View). (root_in v.trail p).is_proto) view ∙ shared) (ap (λ (d : Option Dictionary). option_map (λ x. x.cause) d) (sym front) ∙ fast)) view;
+        }
+      where
+        again : (p m : ℕ) → HasOwnCopy (record a.heap.view { used = record a.heap.view.used { objects = o + 1 } }) c.heap.view p m → HasOwnCopy a.heap.view (before (length a.kept) c a.heap.view.used.objects).heap.view p m
+        again p m k = record { proto = k.proto; moved = k.moved; copy = k.copy }
+
+        owned : (p m : ℕ) → HasOwnCopy b.heap.view c.heap.view p m → b.heap.view ≡ record a.heap.view { used = record a.heap.view.used { objects = o + 1 } } → HasOwnCopy a.heap.view (before (length a.kept) c a.heap.view.used.objects).heap.view p m
+        owned p m own view = again p m (subst (λ (v : View). HasOwnCopy v c.heap.view p m) view own)
+
+    pub created : (proto : Option ℕ) → IsThere (world_of a) proto → IsBegun went still proto o b → IsNamedNow went b proto c → (proto ≡ None → c ≡ b) → IfSome proto (λ p. HowBecame b p c) → Lawful c.heap.view.shape c.heap.view.trail → IsEntered went c o proto d → Effect went a (Created proto) d
+    created (Some p) there begun named none how lawful entered =
+        let is : IsReady a (Some p) o c = ready a b c (Some p) o still is_still begun there named in
+        let lt : p < length a.kept = (let count = length-world a.heap.view.trail a.kept in omega (arith, there, count)) in
+        let mid : ObjectsState P = before (length a.kept) c a.heap.view.used.objects in
+        record {
+          mid = mid;
+          moves = (mid, become-mid stays a c (Some p) o there is p refl lt (how-mid p lt begun how) lawful, still-refl mid);
+          own = entered-made mid c d (Some p) o (made-mid stays a c (Some p) o there is p refl) entered;
+        }
+    created None there begun named none how lawful entered =
+        record {
+          mid = a;
+          moves = still-refl a;
+          own = entered-made a c d None o (subst (λ (s : ObjectsState P). IsMade a None o s) (sym (none refl)) (record {
+            number = begun-number a b None o still is_still begun;
+            steps = begun-steps a b None o still is_still begun;
+            view = begun-view a b None o still is_still begun;
+            null = begun-null a b None o still is_still begun;
+            causes = λ q other. begun-cause a b None o still is_still begun q other;
+          })) entered;
+        }

@@ -13,7 +13,7 @@ use Rattle.hc_heap.specs.Writes.{Write, Trail, ObjectMap}
 use Rattle.hc_heap.specs.Readings.{bits_in, gate_in, map_in, parent_in, prototype_in, root_in, store_in}
 use Rattle.hc_heap.specs.Lawful.{HoldsEntries, IsFormOf, Lawful, LawfulObjectMap}
 use Rattle.hc_heap.specs.Kept.{Adds, DetailsRise, FormsAreKept, GoesOn, UnusedSaysNothing}
-use Rattle.hc_heap.specs.Frames.{adds-on, adds-wider, goes-on-of, same-after}
+use Rattle.hc_heap.specs.Frames.{adds-on, adds-one, adds-wider, goes-on-of, same-after}
 use Rattle.hc_heap.specs.States.{View, HasRoom, IsHeap, with_write}
 use Rattle.hc_descs.specs.Entries.{entries_in}
 use Rattle.hc_tree.specs.Copying.{IsPrivateCopy, copy_need}
@@ -30,6 +30,8 @@ use Rattle.hc_objects.specs.State.{AreHandedOut, IsFast}
 use Rattle.hc_objects.proofs.Copied.{copy-changed, copy-later, copy-opens, copy-owns, copy-there, map-same, objects-same, root-same, slots-same, store-same, word-same}
 use Rattle.hc_objects.proofs.Creating.{proto-none}
 use Rattle.hc_objects.proofs.Holding.{holds-grown}
+use Rattle.hc_objects.proofs.Marking.{fills-at}
+use Rattle.hc_objects.proofs.Owning.{open-used}
 use Rattle.hc_objects.proofs.Joining.{bits-by, grown-later, map-by, root-by, touches-by, tree-by}
 use Rattle.hc_objects.proofs.Rising.{some-of}
 use Rattle.hc_objects.proofs.Sound.{some-is}
@@ -153,8 +155,8 @@ module _ (maps : MapsAreKept) (details : DetailsRise) (trees : TreesStay) (unuse
 
       tree-same : TreeIsSame w.trail new.trail
       tree-same =
-          let same : TreeIsSame w.trail x.trail = kept-after (λ (t : Trail). TreeIsSame w.trail t) (tree-by w o w.trail) fitted.writes (record { links = λ k. refl; gates = λ k. refl; lives = λ k. refl; roots = λ k. refl }) in
-          record { links = same.links; gates = same.gates; lives = same.lives; roots = same.roots }
+          let same : TreeIsSame w.trail x.trail = kept-after (λ (t : Trail). TreeIsSame w.trail t) (tree-by w o w.trail) fitted.writes (record { links = λ k. refl; gates = λ k. refl; lives = λ k. refl; roots = λ k. refl; details = λ f. refl; arrays = λ n. refl; bases = λ n. refl; keys = λ e. refl; references = λ e. refl }) in
+          record { links = same.links; gates = same.gates; lives = same.lives; roots = same.roots; details = same.details; arrays = same.arrays; bases = same.bases; keys = same.keys; references = same.references }
 
       moved-writes : Adds (Touches w o) w.trail new.trail
       moved-writes = adds-on fill-changes (map-moved w o x.trail (Some v.used.maps))
@@ -223,5 +225,8 @@ module _ (maps : MapsAreKept) (details : DetailsRise) (trees : TreesStay) (unuse
             store = fitted.store;
             owns = λ s mine lt. let later_lt : s < w.used.slots = omega (arith, lt, slots-then) in owns s (fitted.owns s mine later_lt) lt;
             needs = needs-then;
+            younger = open-used unused v heap m (gate_with n true) fast.is_open;
+            stable = ap (λ (b : MapBits). b.unstable) (same-after (λ (t : Trail). bits_in t v.used.maps) (bits-by w o v.used.maps) fitted.writes) ∙ it.own.stable;
+            after = adds-on it.after (adds-on (adds-wider (fills-at w o m) fitted.writes) (adds-one x.trail (ObjectMap o (Some v.used.maps)) tt));
             objects = ap (λ (s : Shape). s.objects) fitted.used ∙ objects-same maps details unused false (Some (key_of p, tagged_field)) proto v w m heap it;
           }

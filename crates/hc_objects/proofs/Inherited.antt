@@ -1,12 +1,13 @@
 -- An object that gets another prototype, after that became one: modes, needs and prototypes.
-use Rattle.std.proofs.Common.{◌≡◌, ◌≢◌, ℕ, zero, suc, ◌<◌, Bool, true, false, cond, eq-eqb, true≢false, List, Option, Some, None, IfSome, length, refl, sym, ap, ◌∙◌, subst, arith}
-use Rattle.std.specs.Prelude.{IsTrue, option_map, if◌then◌else◌}
+use Rattle.std.proofs.Common.{◌≡◌, ◌≢◌, ℕ, zero, suc, ◌<◌, Bool, true, false, cond, eq-eqb, true≢false, List, [], ◌∷◌, Option, Some, None, length, refl, sym, ap, ◌∙◌, subst, arith, IfSome}
+use Rattle.std.specs.Prelude.{option_map, if◌then◌else◌}
 use Rattle.hc_board.specs.Trail.{Access}
 use Rattle.hc_layout.specs.declared.shape.Shape.{Shape}
 use Rattle.hc_value.specs.declared.prop.Prop.{Prop}
 use Rattle.hc_value.specs.declared.reply.Cause.{Cause}
 use Rattle.hc_value.specs.declared.reply.Cause.TheVariants.{Space}
 use Rattle.hc_heap.specs.Writes.{Trail}
+use Rattle.hc_heap.specs.Lawful.{Lawful}
 use Rattle.hc_heap.specs.Readings.{map_in, root_in}
 use Rattle.hc_heap.specs.States.{View, HeapState}
 use Rattle.hc_descs.specs.Entries.{count_of}
@@ -17,15 +18,18 @@ use Rattle.hc_tree.specs.Needs.{HasSpace, no_need, with_need}
 use Rattle.hc_table.specs.Changes.{Moved, Linked, reaches, reaches_among}
 use Rattle.hc_table.specs.World.{Object, World, object, props_at}
 use Rattle.hc_objects.specs.Becoming.{HasSpare, IsSpare}
-use Rattle.hc_objects.specs.Came.{IsStill, Steps, Made, world_of}
+use Rattle.hc_objects.specs.Came.{AreMoves, Became, Effect, IsBecome, IsMarked, IsStill, Steps, marked_before, moves_to_link, world_of, HowBecame}
 use Rattle.hc_objects.specs.Changes.{KeptBut}
-use Rattle.hc_objects.specs.Inheriting.{IsLinkedNow, IsNamedNow, IsSpareFor, IsSpareOf, spared_named, spared_need}
+use Rattle.hc_objects.specs.Inheriting.{IsLinkedNow, IsNamed, IsNamedNow, IsSpareFor, IsSpareOf, named_need, spared_named, spared_need}
+use Rattle.hc_objects.specs.Laws.{still-refl}
 use Rattle.hc_objects.specs.Meaning.{Dictionary, cause_in, kept_of, fast_props, prop_in, world}
-use Rattle.hc_objects.specs.Modes.{Becomes, IsNamed, IsWithin, StaysFast, both, if_fast, if_named, link_need, named_need, need_by, proto_need, walk_need}
+use Rattle.hc_objects.specs.Modes.{Becomes, StaysFast, both, if_fast, link_need, need_by, proto_need, walk_need}
+use Rattle.hc_objects.specs.Rest.{Marks, StartsByMark}
 use Rattle.hc_objects.specs.State.{ObjectsState, IsObjects}
 use Rattle.hc_objects.proofs.Adding.{map-is}
 use Rattle.hc_objects.proofs.Composing.{but-on, cause-but, no-cause, steps-on}
-use Rattle.hc_objects.proofs.Needing.{no-less-need, no-less-on, within-same}
+use Rattle.hc_objects.proofs.Marking.{marks-start, words-start}
+use Rattle.hc_objects.proofs.Needing.{within-same}
 use Rattle.hc_objects.proofs.Listed.{length-listed}
 use Rattle.hc_objects.proofs.Writing.{has-map, props-are}
 
@@ -47,18 +51,6 @@ spare-on R S x y (Some d) to from same h = record { full = λ s. h.full (from s)
 spare-on R S x y None to from same h = to h
 
 -- Needs
-
--- the needs of two operations, one after the other
-within-both : (k n : Need) (a b c : Shape) → IsWithin k a b → IsWithin n b c → IsWithin (both k n) a c
-within-both k n a b c x y = record {
-  maps = omega (arith, x.maps, y.maps);
-  entries = omega (arith, x.entries, y.entries);
-  fields = omega (arith, x.fields, y.fields);
-  links = omega (arith, x.links, y.links);
-  slots = omega (arith, x.slots, y.slots);
-  cells = y.cells ∙ x.cells;
-  rises = no-less-on a b c x.rises y.rises;
-}
 
 space-to : (v : View) (used : Shape) (k n : Need) → used ≡ with_need k v.used → HasSpace (record v { used = used }) n → HasSpace v (both k n)
 space-to v used k n is space =
@@ -158,22 +150,6 @@ module _ {P : Type 0} where
           let stays : StaysFast (HasSpace a.heap.view need) (cause_in b.kept p) = subst (λ (x : Option Cause). Becomes x None (HasSpace a.heap.view need) (cause_in b.kept p)) e mode in
           ap (λ (x : Option Cause). if_fast x need) (stays.stays.1 (spare (none-kept (kept_of a.kept p) e)))
 
-  named-same : (a b c : ObjectsState P) (proto : Option ℕ) → ((p : ℕ) → proto ≡ Some p → cause_in c.kept p ≡ cause_in b.kept p) → named_need a proto c ≡ named_need a proto b
-  named-same a b c None same = refl
-  named-same a b c (Some p) same = ap (λ (x : Option Cause). if_fast x (proto_need a.heap.view.trail p)) (same p refl)
-
-  named-mode : (a b c : ObjectsState P) (proto : Option ℕ) → ((p : ℕ) → proto ≡ Some p → cause_in c.kept p ≡ cause_in b.kept p) → IsNamed a proto b → IsNamed a proto c
-  named-mode a b c None same h = h
-  named-mode a b c (Some p) same h = subst (λ (x : Option Cause). Becomes (cause_in a.kept p) None (HasSpace a.heap.view (proto_need a.heap.view.trail p)) x) (sym (same p refl)) h
-
-  named-within : (a b : ObjectsState P) (proto : Option ℕ) → IsWithin (if_named proto (proto_need a.heap.view.trail)) a.heap.view.used (with_need (named_need a proto b) a.heap.view.used)
-  named-within a b None = record { maps = omega arith; entries = omega arith; fields = omega arith; links = omega arith; slots = omega arith; cells = refl; rises = no-less-need no_need a.heap.view.used }
-  named-within a b (Some p) = by (cause_in b.kept p)
-    where
-      by : (now : Option Cause) → IsWithin (proto_need a.heap.view.trail p) a.heap.view.used (with_need (if_fast now (proto_need a.heap.view.trail p)) a.heap.view.used)
-      by None = record { maps = omega arith; entries = omega arith; fields = omega arith; links = omega arith; slots = omega arith; cells = refl; rises = no-less-need (proto_need a.heap.view.trail p) a.heap.view.used }
-      by (Some c) = record { maps = omega arith; entries = omega arith; fields = omega arith; links = omega arith; slots = omega arith; cells = refl; rises = no-less-need no_need a.heap.view.used }
-
   module _ (went : P → List Access → List Access → P → Type 0) where
     -- a fast object still needs the same for another prototype
     pub link-same : (a b : ObjectsState P) (o : ℕ) (proto : Option ℕ) → IsObjects a.heap.view a.kept a.of_null → IsObjects b.heap.view b.kept b.of_null → o < length (world_of a) → o < length a.kept → o < length b.kept → kept_of a.kept o ≡ None → proto ≢ Some o → IsNamedNow went a proto b
@@ -191,10 +167,6 @@ module _ {P : Type 0} where
         ∙ ap (λ (n : ℕ). linking (root_in a.heap.view.trail o).is_proto n (root_of b.heap.view.trail proto b.of_null)) count
         ∙ ap (λ (r : Option ℕ). linking (root_in a.heap.view.trail o).is_proto (count_of a.heap.view.trail so.map) r) (root-same a.heap.view.trail b.heap.view.trail proto a.of_null b.of_null it.roots it.null)
         ∙ sym (link-is a.heap.view.trail o so.map proto a.of_null so.is_map)
-
-    -- a slow one needs nothing
-    pub link-slow : (a b : ObjectsState P) (o : ℕ) (proto : Option ℕ) → map_in a.heap.view.trail o ≡ None → proto ≢ Some o → IsNamedNow went a proto b → link_need b.heap.view.trail o proto b.of_null ≡ link_need a.heap.view.trail o proto a.of_null
-    link-slow a b o proto none other it = link-none b.heap.view.trail o proto b.of_null (it.maps o other ∙ none) ∙ sym (link-none a.heap.view.trail o proto a.of_null none)
 
     module _ (a b : ObjectsState P) (o : ℕ) (proto : Option ℕ) (it : IsNamedNow went a proto b) (same : link_need b.heap.view.trail o proto b.of_null ≡ link_need a.heap.view.trail o proto a.of_null) where
       abbrev need : Need
@@ -215,29 +187,51 @@ module _ {P : Type 0} where
           (λ r. room-from r) (λ r. room-to r) (ap (λ (w : World). object w o) (sym it.steps.world))
           (subst (λ (k : Need). IsSpareFor (HasSpace a.heap.view (both k (link_need a.heap.view.trail o proto a.of_null))) (object (world_of a) o) slow) (sym (named-is a b proto d spare it.mode)) h)
 
-      -- the object got the prototype
-      pub linked-made : ((p q r : P) (first second third : List Access) → went p first second q → went q second third r → went p first third r) → (c : ObjectsState P) → proto ≢ Some o → IsLinkedNow went b o proto c → Made went a (Linked o proto) c
-      linked-made law c other linked = record {
-        steps = steps-on went law a b c (Linked o proto) it.steps linked.steps;
-        modes = record {
-          named = named-mode a b c proto stays it.mode;
-          this = subst (λ (k : Need). Becomes (cause_in a.kept o) None (HasSpace a.heap.view (both k (link_need a.heap.view.trail o proto a.of_null))) (cause_in c.kept o)) (sym (named-same a b c proto stays))
-              (becomes-same (cause_in a.kept o) None (cause_in c.kept o) (HasSpace b.heap.view (link_need b.heap.view.trail o proto b.of_null)) (HasSpace a.heap.view (both (named_need a proto b) (link_need a.heap.view.trail o proto a.of_null)))
-              (λ r. room-to r) (λ r. room-from r)
-              (subst (λ (x : Option Cause). Becomes x None (HasSpace b.heap.view (link_need b.heap.view.trail o proto b.of_null)) (cause_in c.kept o)) (ap (λ (d : Option Dictionary). option_map (λ x. x.cause) d) (it.others o other)) linked.mode));
-          others = λ q apart unnamed. cause-but b.kept c.kept o q linked.others apart ∙ ap (λ (d : Option Dictionary). option_map (λ x. x.cause) d) (it.others q unnamed);
-        };
-        needs = within-both (if_named proto (proto_need a.heap.view.trail)) need a.heap.view.used b.heap.view.used c.heap.view.used
-            (subst (IsWithin (if_named proto (proto_need a.heap.view.trail)) a.heap.view.used) (sym it.used) (named-within a b proto))
-            (subst (λ (k : Need). IsWithin k b.heap.view.used c.heap.view.used) same linked.needs);
-        protos = record {
-          named = λ p is. subst (λ (x : Bool). IsTrue x) (sym (linked.protos p)) (subst (λ (x : Option ℕ). IfSome x (λ y. IsTrue (root_in b.heap.view.trail y).is_proto)) is it.named);
-          others = λ p unnamed. linked.protos p ∙ it.protos p unnamed;
-        };
-      }
-        where
-          stays : (p : ℕ) → proto ≡ Some p → cause_in c.kept p ≡ cause_in b.kept p
-          stays p is = cause-but b.kept c.kept o p linked.others (λ e. other (is ∙ ap (λ (x : ℕ). Some x) e))
+    -- what was named is a prototype now
+    become-of : (a b : ObjectsState P) (p : ℕ) → IsNamedNow went a (Some p) b → HowBecame a p b → Lawful b.heap.view.shape b.heap.view.trail → IsBecome went a p b
+    become-of a b p it how lawful = record {
+      steps = it.steps;
+      mode = it.mode;
+      used = it.used;
+      proto = it.named;
+      protos = λ q other. it.protos q (λ e. let same : q ≡ p = cc in other same);
+      others = λ q other. ap (λ (d : Option Dictionary). option_map (λ x. x.cause) d) (it.others q (λ e. let same : q ≡ p = cc in other same));
+      how = how;
+      lawful = lawful;
+    }
+
+    -- an object got another prototype, after the moves before it
+    pub linked-effect : (first b c : ObjectsState P) (o : ℕ) (proto : Option ℕ) → AreMoves went first (moves_to_link first o proto) b → IsLinkedNow went b o proto c → Effect went first (Linked o proto) c
+    linked-effect first b c o proto moves linked = record {
+      mid = b;
+      moves = moves;
+      own = record {
+        steps = linked.steps;
+        modes = record { this = linked.mode; others = λ q apart. cause-but b.kept c.kept o q linked.others apart };
+        needs = linked.needs;
+        protos = linked.protos;
+        marks = linked.starts;
+      };
+    }
+
+    -- the moves before a slow object gets it
+    pub slow-moves : (a b : ObjectsState P) (o : ℕ) (proto : Option ℕ) (cause : Cause) → cause_in a.kept o ≡ Some cause → IsNamedNow went a proto b → (proto ≡ None → b ≡ a) → IfSome proto (λ p. HowBecame a p b) → Lawful b.heap.view.shape b.heap.view.trail → AreMoves went a (moves_to_link a o proto) b
+    slow-moves a b o (Some p) cause slow it none how lawful =
+        subst (λ (c : Option Cause). AreMoves went a (marked_before c (cause_in a.kept p) o (Became p ∷ [])) b) (sym slow) (b, become-of a b p it how lawful, still-refl b)
+    slow-moves a b o None cause slow it none how lawful = subst (λ (s : ObjectsState P). IsStill a s) (sym (none refl)) (still-refl a)
+
+    -- and before a fast one does: of a fast object, or of none
+    pub fast-moves : (a b : ObjectsState P) (o : ℕ) (proto : Option ℕ) → cause_in a.kept o ≡ None → ((p : ℕ) → proto ≡ Some p → cause_in a.kept p ≡ None) → IsNamedNow went a proto b → (proto ≡ None → b ≡ a) → IfSome proto (λ p. HowBecame a p b) → Lawful b.heap.view.shape b.heap.view.trail → AreMoves went a (moves_to_link a o proto) b
+    fast-moves a b o (Some p) fast named it none how lawful =
+        subst (λ (c : Option Cause). AreMoves went a (marked_before c (cause_in a.kept p) o (Became p ∷ [])) b) (sym fast)
+        (subst (λ (c : Option Cause). AreMoves went a (marked_before None c o (Became p ∷ [])) b) (sym (named p refl)) (b, become-of a b p it how lawful, still-refl b))
+    fast-moves a b o None fast named it none how lawful = subst (λ (s : ObjectsState P). IsStill a s) (sym (none refl)) (still-refl a)
+
+    -- of a slow object: its map is made unstable before
+    pub marked-moves : (a mid b : ObjectsState P) (o p : ℕ) (cause : Cause) → cause_in a.kept o ≡ None → cause_in a.kept p ≡ Some cause → IsMarked went a o mid → IsNamedNow went mid (Some p) b → HowBecame mid p b → Lawful b.heap.view.shape b.heap.view.trail → AreMoves went a (moves_to_link a o (Some p)) b
+    marked-moves a mid b o p cause fast slow is it how lawful =
+        subst (λ (c : Option Cause). AreMoves went a (marked_before c (cause_in a.kept p) o (Became p ∷ [])) b) (sym fast)
+        (subst (λ (c : Option Cause). AreMoves went a (marked_before None c o (Became p ∷ [])) b) (sym slow) (mid, is, (b, become-of mid b p it how lawful, still-refl b)))
 
     -- a slow object got it
     pub slow-linked : (b c : ObjectsState P) (o : ℕ) (proto : Option ℕ) (d : Dictionary) → kept_of b.kept o ≡ Some d → Steps went b (Linked o proto) c → c.heap ≡ b.heap → KeptBut o b.kept c.kept → cause_in c.kept o ≡ cause_in b.kept o → IsLinkedNow went b o proto c
@@ -249,14 +243,15 @@ module _ {P : Type 0} where
           needs = within-same (link_need b.heap.view.trail o proto b.of_null) b.heap.view.used c.heap.view.used (ap (λ (h : HeapState P). h.view.used) heap);
           protos = λ q. ap (λ (h : HeapState P). (root_in h.view.trail q).is_proto) heap;
           others = others;
+          starts = words-start b.heap.view.trail c.heap.view.trail o (ap (λ (h : HeapState P). h.view.trail) heap);
         }
 
     -- a fast one left its map, and got it
     pub left-linked : ((p q r : P) (first second third : List Access) → went p first second q → went q second third r → went p first third r) → (a b c : ObjectsState P) (o : ℕ) (proto : Option ℕ) (d : Dictionary)
         → kept_of a.kept o ≡ None → (HasSpace a.heap.view (link_need a.heap.view.trail o proto a.of_null) → ⊥) → d.cause ≡ Space
-        → Steps went a Moved b → cause_in b.kept o ≡ Some d.cause → KeptBut o a.kept b.kept → b.heap.view.used ≡ a.heap.view.used → ((q : ℕ) → root_in b.heap.view.trail q ≡ root_in a.heap.view.trail q)
+        → Steps went a Moved b → cause_in b.kept o ≡ Some d.cause → KeptBut o a.kept b.kept → b.heap.view.used ≡ a.heap.view.used → ((q : ℕ) → root_in b.heap.view.trail q ≡ root_in a.heap.view.trail q) → Marks a.heap.view.trail b.heap.view.trail o
         → Steps went b (Linked o proto) c → c.heap ≡ b.heap → KeptBut o b.kept c.kept → cause_in c.kept o ≡ cause_in b.kept o → IsLinkedNow went a o proto c
-    left-linked law a b c o proto d fast full space moved cause others used roots steps heap later same =
+    left-linked law a b c o proto d fast full space moved cause others used roots marks steps heap later same =
         let now : cause_in c.kept o ≡ Some Space = same ∙ cause ∙ ap (λ (x : Cause). Some x) space in
         record {
           steps = steps-on went law a b c (Linked o proto) moved steps;
@@ -265,4 +260,5 @@ module _ {P : Type 0} where
           needs = within-same (link_need a.heap.view.trail o proto a.of_null) a.heap.view.used c.heap.view.used (ap (λ (h : HeapState P). h.view.used) heap ∙ used);
           protos = λ q. ap (λ (h : HeapState P). (root_in h.view.trail q).is_proto) heap ∙ ap (λ r. r.is_proto) (roots q);
           others = but-on o a.kept b.kept c.kept others later;
+          starts = subst (λ (h : HeapState P). StartsByMark a.heap.view.trail h.view.trail o) (sym heap) (marks-start a.heap.view.trail b.heap.view.trail o marks);
         }

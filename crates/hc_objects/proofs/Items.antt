@@ -1,5 +1,5 @@
 -- The items that are kept, one for each object.
-use Rattle.std.proofs.Common.{◌≡◌, ◌≢◌, ℕ, zero, suc, ◌+◌, ◌<◌, List, [], ◌∷◌, ◌++◌, Option, length, set, refl, ap, subst, arith, length-append}
+use Rattle.std.proofs.Common.{◌≡◌, ◌≢◌, ℕ, zero, suc, ◌+◌, ◌<◌, ◌≤◌, List, [], ◌∷◌, ◌++◌, Option, None, length, set, take, refl, ap, subst, arith, length-append}
 use Rattle.std.proofs.lemmas.List.{length-set}
 use Rattle.hc_objects.specs.Meaning.{Dictionary, kept_of}
 use Rattle.hc_objects.specs.Changes.{KeptBut}
@@ -40,3 +40,22 @@ length-push kept item = omega (arith, length-append kept (item ∷ []))
 
 pub kept-push : (kept : List (Option Dictionary)) (item : Option Dictionary) → KeptBut (length kept) kept (kept ++ item ∷ [])
 kept-push kept item = record { others = λ p ne. get-push kept p item ne; there = λ p ne lt. omega (arith, ne, lt, length-push kept item) }
+
+-- there is nothing kept where there is no object
+pub kept-past : (kept : List (Option Dictionary)) (q : ℕ) → length kept ≤ q → kept_of kept q ≡ None
+kept-past [] q past = refl
+kept-past (x ∷ xs) zero past = absurd (omega (arith, past))
+kept-past (x ∷ xs) (suc q) past = kept-past xs q (omega (arith, past))
+
+-- the first items
+
+pub kept-front : (kept : List (Option Dictionary)) (n q : ℕ) → q < n → kept_of (take n kept) q ≡ kept_of kept q
+kept-front kept zero q lt = absurd (omega (arith, lt))
+kept-front [] (suc n) q lt = refl
+kept-front (x ∷ xs) (suc n) zero lt = refl
+kept-front (x ∷ xs) (suc n) (suc q) lt = kept-front xs n q (omega (arith, lt))
+
+pub length-front : (kept : List (Option Dictionary)) (n : ℕ) → n ≤ length kept → length (take n kept) ≡ n
+length-front kept zero le = refl
+length-front [] (suc n) le = absurd (omega (arith, le))
+length-front (x ∷ xs) (suc n) le = let rest : length (take n xs) ≡ n = length-front xs n (omega (arith, le)) in omega (arith, rest)

@@ -14,7 +14,7 @@ use Rattle.hc_heap.specs.Writes.{Write, Trail, ObjectMap, Store, Slot}
 use Rattle.hc_heap.specs.Readings.{gate_in, bits_in, map_in, root_in}
 use Rattle.hc_heap.specs.Lawful.{Lawful, LawfulObjectMap, HoldsEntries, IsFormOf}
 use Rattle.hc_heap.specs.Kept.{Adds, DetailsRise, UnusedSaysNothing, GoesOn}
-use Rattle.hc_heap.specs.Frames.{same-after, adds-on, adds-wider, goes-on-of}
+use Rattle.hc_heap.specs.Frames.{same-after, adds-on, adds-one, adds-wider, goes-on-of}
 use Rattle.hc_heap.specs.States.{View, IsHeap, with_write}
 use Rattle.hc_descs.specs.Entries.{field_at}
 use Rattle.hc_tree.specs.Tree.{IsTree, gate_with, tagged_field}
@@ -24,7 +24,9 @@ use Rattle.hc_objects.specs.Meaning.{held_in, slot_word}
 use Rattle.hc_objects.specs.State.{IsFast}
 use Rattle.hc_objects.specs.Changes.{Touches, IsGrown, key_of}
 use Rattle.hc_objects.specs.Filling.{FillsStore, IsFitted, IsMoved}
+use Rattle.hc_objects.specs.Rest.{MarksAt}
 use Rattle.hc_objects.proofs.Holding.{holds-grown}
+use Rattle.hc_objects.proofs.Marking.{fills-at, marked-already, other-gate}
 use Rattle.hc_objects.proofs.Owning.{open-used}
 use Rattle.hc_objects.proofs.Rising.{not-both}
 use Rattle.hc_objects.proofs.Sound.{some-is}
@@ -85,8 +87,8 @@ module _ (old : View) (o : ℕ) where
   root-by p t _ e = absurd e
 
   pub tree-by : (first : Trail) (t : Trail) (w : Write) → FillsStore old o t w → TreeIsSame first t → TreeIsSame first (w ∷ t)
-  tree-by first t (Store q v) e same = record { links = same.links; gates = same.gates; lives = same.lives; roots = same.roots }
-  tree-by first t (Slot s v) e same = record { links = same.links; gates = same.gates; lives = same.lives; roots = same.roots }
+  tree-by first t (Store q v) e same = record { links = same.links; gates = same.gates; lives = same.lives; roots = same.roots; details = same.details; arrays = same.arrays; bases = same.bases; keys = same.keys; references = same.references }
+  tree-by first t (Slot s v) e same = record { links = same.links; gates = same.gates; lives = same.lives; roots = same.roots; details = same.details; arrays = same.arrays; bases = same.bases; keys = same.keys; references = same.references }
   tree-by first t _ e same = absurd e
 
   pub touches-by : (t : Trail) (w : Write) → FillsStore old o t w → Touches old o t w
@@ -154,8 +156,8 @@ module _ (maps : MapsAreKept) (details : DetailsRise) (trees : TreesStay) (unuse
 
     tree-same : TreeIsSame v.trail new.trail
     tree-same =
-        let same : TreeIsSame v.trail w.trail = kept-after (λ (t : Trail). TreeIsSame v.trail t) (tree-by v o v.trail) fitted.writes (record { links = λ k. refl; gates = λ k. refl; lives = λ k. refl; roots = λ k. refl }) in
-        record { links = same.links; gates = same.gates; lives = same.lives; roots = same.roots }
+        let same : TreeIsSame v.trail w.trail = kept-after (λ (t : Trail). TreeIsSame v.trail t) (tree-by v o v.trail) fitted.writes (record { links = λ k. refl; gates = λ k. refl; lives = λ k. refl; roots = λ k. refl; details = λ f. refl; arrays = λ n. refl; bases = λ n. refl; keys = λ e. refl; references = λ e. refl }) in
+        record { links = same.links; gates = same.gates; lives = same.lives; roots = same.roots; details = same.details; arrays = same.arrays; bases = same.bases; keys = same.keys; references = same.references }
 
     grown-then : IsGrown new.trail m c n (key_of p) tagged_field
     grown-then = grown-later v.trail new.trail after m c n (gate_with n false) (key_of p) is_open refl grown
@@ -182,4 +184,6 @@ module _ (maps : MapsAreKept) (details : DetailsRise) (trees : TreesStay) (unuse
       store = fitted.store;
       owns = fitted.owns;
       objects = ap (λ (s : Shape). s.objects) fitted.used;
+      other = other-gate v.trail c m n child is_open;
+      after = subst (λ (t : Trail). Adds (MarksAt m) t new.trail) (sym (marked-already v.trail m unstable)) (adds-on (adds-wider (fills-at v o m) fitted.writes) (adds-one w.trail (ObjectMap o (Some c)) tt));
     }

@@ -1,4 +1,5 @@
 pub mod Listed
+pub mod GoingOn
 pub mod Rising
 pub mod Staying
 pub mod Sparing
@@ -8,6 +9,7 @@ pub mod Written
 pub mod Grown
 pub mod Sound
 pub mod Holding
+pub mod Marking
 pub mod Owning
 pub mod Items
 pub mod Sharing
@@ -47,7 +49,6 @@ pub mod Linking
 pub mod AddingAlone
 pub mod Entering
 pub mod Created
-pub mod Walked
 pub mod Rooted
 pub mod Found
 pub mod Likeness

@@ -21,14 +21,18 @@ use Rattle.hc_objects.specs.State.{IsFast}
 use Rattle.hc_objects.specs.Changes.{SlotsStay}
 use Rattle.hc_objects.proofs.Holding.{holds-by}
 use Rattle.hc_objects.proofs.Listed.{listed-same}
-use Rattle.hc_objects.proofs.Rising.{some-and}
+use Rattle.hc_objects.proofs.Rising.{some-and, some-of}
 use Rattle.hc_objects.proofs.Staying.{IsLater, holds-still, prop-stays}
+
+-- a field that is made admits everything
+pub plain-detail : (t : Trail) (f : ℕ) → IsTree t → IsField t f → detail_in t f ≡ Some tagged_field
+plain-detail t f tree made = let d = some-of (detail_in t f) made.detail in d.1 ∙ ap (λ (x : Detail). Some x) (tree.plain f d.0 d.1)
 
 -- the field of an open map's entry admits everything
 pub tagged-detail : (t : Trail) (m k : ℕ) (g : GateWord) → IsTree t → IsOpen t m g → gate_in t m ≡ Some g → k < g.entries → detail_at t m k ≡ Some tagged_field
 tagged-detail t m k g tree opened is lt =
     let field = some-and (field_at t m k) (λ f. IsField t f) (opened.entries.fields k lt) in
-    ap (detail_of t) field.1.0 ∙ (tree.maps m g is).tagged k field.0 lt field.1.0
+    ap (detail_of t) field.1.0 ∙ plain-detail t field.0 tree field.1.1
 
 module _ (old new : Trail) (after : IsLater old new) (tree : IsTree new) (opened : (x : ℕ) (g : GateWord) → gate_in new x ≡ Some g → IsOpen new x g) (o m c n : ℕ) (fast : IsFast old o m (gate_with n false)) (proto : Option ℕ) (like : IsLike new c m n proto) where
   open-then : gate_in new m ≡ Some (gate_with n false)

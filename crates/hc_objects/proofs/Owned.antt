@@ -1,4 +1,5 @@
 -- A fast object becomes a prototype with a private map: that its writes are lawful, and the step that they make.
+use Rattle.hc_objects.proofs.Marking.{makes-at}
 use Rattle.std.proofs.Common.{◌≡◌, ℕ, ◌+◌, ◌<◌, ◌≤◌, Bool, true, false, cond, eq-eqb, true≢false, List, ◌∷◌, Option, Some, None, IfSome, length, refl, sym, ap, ◌∙◌, subst, arith}
 use Rattle.std.specs.Prelude.{IsSome, IsSomeAnd, IsTrue}
 use Rattle.hc_layout.specs.declared.capacity.TheConstants.{MAX_FAST}
@@ -12,7 +13,7 @@ use Rattle.hc_heap.specs.Writes.{Write, Trail, Bits, ObjectMap, Root, Store, Slo
 use Rattle.hc_heap.specs.Readings.{gate_in, prototype_in, bits_in, map_in, root_in, store_in, slot_in}
 use Rattle.hc_heap.specs.Lawful.{Lawful, LawfulObjectMap, IsOwnMap, HoldsEntries, word_from}
 use Rattle.hc_heap.specs.Kept.{Adds, DetailsRise, FormsAreKept, GatesAreOpen, UnusedSaysNothing}
-use Rattle.hc_heap.specs.Frames.{adds-on, same-after, goes-on-of}
+use Rattle.hc_heap.specs.Frames.{adds-on, same-after, goes-on-of, adds-one, adds-wider}
 use Rattle.hc_heap.specs.States.{View, IsHeap}
 use Rattle.hc_heap.specs.declared.kind.Kind.TheVariants.{RootOfObject}
 use Rattle.hc_descs.specs.Entries.{count_of, entries_in}
@@ -250,6 +251,10 @@ module _ (maps : MapsAreKept) (details : DetailsRise) (trees : TreesStay) (unuse
       store = copied-store old m mid.trail it.writes o;
       slots = copied-slot old m mid.trail it.writes;
       used = it.used;
+      younger = has-there;
+      stable = subst (λ (x : ℕ). (bits_in mid.trail x).unstable ≡ false) it.number own-here.stable;
+      after = adds-on (adds-wider (makes-at old.used None m (λ x e. let f : ⊥ = cc in absurd f)) it.writes)
+          (adds-on (adds-one mid.trail (ObjectMap o (Some c)) tt) (adds-one (ObjectMap o (Some c) ∷ mid.trail) (Root o (record { is_proto = true; map = (root_in (ObjectMap o (Some c) ∷ mid.trail) o).map })) tt));
     })
 
 -- The step

@@ -136,4 +136,6 @@ module _ (maps : MapsAreKept) (details : DetailsRise) (trees : TreesStay) (set :
       protos = proto-same;
       store = store-same;
       words = slot-same;
+      more = ObjectMap o (Some c) ∷ found.writes.more;
+      after = ap (λ (t : Trail). ObjectMap o (Some c) ∷ t) found.writes.is;
     }

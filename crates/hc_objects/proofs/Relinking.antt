@@ -7,7 +7,7 @@ use Rattle.hc_heap.specs.Writes.{ObjectMap}
 use Rattle.hc_heap.specs.Readings.{bits_in, map_in, store_in}
 use Rattle.hc_heap.specs.Lawful.{HoldsEntries, LawfulObjectMap}
 use Rattle.hc_heap.specs.Kept.{DetailsRise, GoesOn, UnusedSaysNothing}
-use Rattle.hc_heap.specs.Frames.{adds-on, goes-on-of}
+use Rattle.hc_heap.specs.Frames.{adds-on, goes-on-of, adds-one}
 use Rattle.hc_heap.specs.States.{View, IsHeap, with_write}
 use Rattle.hc_descs.specs.Entries.{count_of, entries_in}
 use Rattle.hc_tree.specs.Kept.{MapsAreKept, TreesStay}
@@ -70,4 +70,5 @@ module _ (maps : MapsAreKept) (details : DetailsRise) (trees : TreesStay) (unuse
           store = store-same maps details unused fresh None proto v w m heap it o;
           words = λ k lt. word-same maps details unused fresh None proto v w m heap it o k;
           used = subst (λ (k : ℕ). w.used ≡ with_need (copy_need fresh None k) v.used) count it.used;
+          after = adds-on it.after (adds-one w.trail (ObjectMap o (Some v.used.maps)) tt);
         }

@@ -5,15 +5,11 @@ use Rattle.hc_layout.specs.declared.shape.Shape.{Shape}
 use Rattle.hc_layout.specs.declared.words.RootWord.{RootWord}
 use Rattle.hc_heap.specs.Writes.{Trail, Gate, Parent, Prototype, Root}
 use Rattle.hc_heap.specs.Readings.{gate_in, parent_in, prototype_in, root_in}
-use Rattle.hc_heap.specs.Kept.{Adds}
-use Rattle.hc_heap.specs.Frames.{adds-none, adds-one, adds-on}
 use Rattle.hc_heap.specs.States.{View, HeapState, IsHeap}
 use Rattle.hc_tree.specs.Tree.{IsTree, IsRoot, gate_with}
-use Rattle.hc_tree.specs.Needs.{HasSpace, with_need}
+use Rattle.hc_tree.specs.Needs.{with_need}
 use Rattle.hc_tree.specs.Growth.{IsStill, IsUnmoved, root_of, root_need, with_root, with_named_root, of_null_after}
 use Rattle.hc_objects.specs.State.{AreRoots}
-use Rattle.hc_objects.specs.Linking.{GrowsTree, shared_need}
-use Rattle.hc_objects.specs.Modes.{walk_need}
 use Rattle.hc_objects.proofs.Sound.{same-or, some-is}
 use Rattle.hc_objects.proofs.Sparing.{cond-other}
 
@@ -61,16 +57,6 @@ is-rooted {P} a b null then_null proto r root still null_still made null_made nu
         let there : IsStill (root_of a.view.trail proto null) (Ok r) = subst (λ (x : Option ℕ). IsStill x (Ok r)) (sym e) tt in
         (ap (λ (s : HeapState P). s.view.trail) (still there), null_still there)
     by None e = (made e, null_made e)
-
--- The writes
-
-root-writes : (t : Trail) (p : Option ℕ) (r : ℕ) → Adds GrowsTree t (with_root t p r)
-root-writes t p r = adds-on (adds-on (adds-one t (Parent r None) tt) (adds-one (Parent r None ∷ t) (Prototype r p) tt)) (adds-one (Prototype r p ∷ Parent r None ∷ t) (Gate r (gate_with 0 false)) tt)
-
-named-writes : (t : Trail) (proto null : Option ℕ) (r : ℕ) → root_of t proto null ≡ None → Adds GrowsTree t (with_named_root t proto r)
-named-writes t None null r none = root-writes t None r
-named-writes t (Some q) null r none = adds-on (root-writes t (Some q) r) (adds-one (with_root t (Some q) r) (Root q (record { is_proto = (root_in t q).is_proto; map = Some r }))
-    (refl, λ m is. let n : None ≡ Some m = sym none ∙ is in let f : ⊥ = cc in absurd f))
 
 -- What a root that is made leaves as it was
 
@@ -130,13 +116,6 @@ module _ (v w : View) (null then_null proto : Option ℕ) (r : ℕ) (it : IsRoot
   null-by : (was : Option ℕ) → root_of v.trail proto null ≡ was → then_null ≡ null_after was proto null r
   null-by was is = it.named ∙ ap (λ (x : Option ℕ). null_after x proto null r) is
 
-  pub rooted-writes : Adds GrowsTree v.trail w.trail
-  rooted-writes = by (root_of v.trail proto null) refl
-    where
-      by : (was : Option ℕ) → root_of v.trail proto null ≡ was → Adds GrowsTree v.trail w.trail
-      by (Some x) e = subst (λ (t : Trail). Adds GrowsTree v.trail t) (sym (trail-by (Some x) e)) (adds-none v.trail)
-      by None e = subst (λ (t : Trail). Adds GrowsTree v.trail t) (sym (trail-by None e)) (named-writes v.trail proto null r e)
-
   pub rooted-roots : AreRoots v.trail null → AreRoots w.trail then_null
   rooted-roots h = by (root_of v.trail proto null) refl
     where
@@ -152,25 +131,3 @@ module _ (v w : View) (null then_null proto : Option ℕ) (r : ℕ) (it : IsRoot
           (subst (λ (t : Trail). IsRoot t proto r) trail it.root)
           (subst (λ (n : Option ℕ). IfSome n (λ x. IsRoot (with_named_root v.trail proto r) None x)) named
           (subst (λ (t : Trail). IfSome then_null (λ x. IsRoot t None x)) trail it.null_root)) h))
-
-  -- there is room for the walk
-  pub rooted-space : (n : ℕ) → HasSpace v (shared_need v.trail n proto null) → HasSpace w (walk_need n)
-  rooted-space n space =
-      subst (λ (s : Shape). HasSpace (record { shape = s; trail = w.trail; used = w.used }) (walk_need n)) (sym it.shape)
-      (subst (λ (u : Shape). HasSpace (record { shape = v.shape; trail = w.trail; used = u }) (walk_need n)) (sym it.used) (record {
-        maps = omega (arith, space.maps);
-        entries = omega (arith, space.entries);
-        fields = omega (arith, space.fields);
-        links = omega (arith, space.links);
-        slots = omega (arith, space.slots);
-      }))
-
--- there is room for the root
-pub root-space : (v : View) (n : ℕ) (proto null : Option ℕ) → HasSpace v (shared_need v.trail n proto null) → HasSpace v (root_need (root_of v.trail proto null))
-root-space v n proto null space = record {
-  maps = omega (arith, space.maps);
-  entries = omega (arith, space.entries);
-  fields = omega (arith, space.fields);
-  links = omega (arith, space.links);
-  slots = omega (arith, space.slots);
-}

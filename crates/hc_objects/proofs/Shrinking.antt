@@ -1,5 +1,5 @@
 -- A fast object that loses its last property: it comes back to the parent of its map.
-use Rattle.std.proofs.Common.{◌≡◌, ℕ, zero, suc, ◌+◌, ◌<◌, ◌≤◌, Bool, true, false, not, cond, eq-eqb, List, ◌∷◌, Option, Some, None, length, set, IfSome, refl, sym, ap, ◌∙◌, subst, true≢false, add-one, arith}
+use Rattle.std.proofs.Common.{◌≡◌, ◌≢◌, ℕ, zero, suc, ◌+◌, ◌<◌, ◌≤◌, Bool, true, false, not, cond, eq-eqb, List, ◌∷◌, Option, Some, None, length, set, IfSome, refl, sym, ap, ◌∙◌, subst, true≢false, add-one, arith}
 use Rattle.std.specs.Prelude.{IsSomeAnd, IsTrue, ◌&&◌, if◌then◌else◌, ⊤}
 use Rattle.std.proofs.Math.Nat.{le_refl}
 use Rattle.hc_layout.specs.declared.shape.Region.TheVariants.{Maps}
@@ -122,6 +122,15 @@ module _ (laws : Laws) (old : View) (kept : List (Option Dictionary)) (of_null :
 
   pub map-there : (m : ℕ) → map_in old.trail o ≡ Some m → m < old.used.maps
   map-there m is = subst (λ (x : ℕ). x < old.used.maps) (map-is old kept of_null h o there fast m is) (open-used laws.unused old h.heap so.map so.gate so.fast.is_open)
+
+  -- which is another map
+  pub parent-other : (m q : ℕ) → map_in old.trail o ≡ Some m → parent_in old.trail m ≡ Some (Some q) → Some q ≢ Some m
+  parent-other m q is up same =
+      let one : q ≡ m = some-is q m same in
+      let here : so.map ≡ m = map-is old kept of_null h o there fast m is in
+      let top : Some q ≡ Some under.parent = some-is (Some q) (Some under.parent) (sym up ∙ parent-is m is) in
+      let parent : q ≡ under.parent = some-is q under.parent top in
+      omega (arith, one, here, parent, under.child.younger)
 
   pub has-parent : (m : ℕ) → map_in old.trail o ≡ Some m → (q : ℕ) × (parent_in old.trail m ≡ Some (Some q))
   has-parent m is = (under.parent, parent-is m is)

@@ -1,5 +1,7 @@
 -- What holds of objects holds after an operation on one of them.
 use Rattle.std.proofs.Common.{◌≡◌, ◌≢◌, ℕ, ◌+◌, ◌<◌, ◌≤◌, Bool, true, false, eqb, eqb-true, eq-eqb, true≢false, List, Option, Some, None, IfSome, length, refl, sym, ap, ◌∙◌, subst, arith}
+use Rattle.std.specs.Prelude.{nat_lt}
+use Rattle.std.proofs.lemmas.Bool.Decides.{nat_tests}
 use Rattle.hc_layout.specs.declared.words.GateWord.{GateWord}
 use Rattle.hc_layout.specs.declared.words.StoreWord.{StoreWord}
 use Rattle.hc_heap.specs.Writes.{Trail}
@@ -28,6 +30,14 @@ same-or p o C same other = by (eqb p o) refl
     by : (b : Bool) → eqb p o ≡ b → C
     by true e = same (eqb-true p o e)
     by false e = other (λ is. true≢false (sym (eq-eqb p o is) ∙ e))
+
+-- a number is below another, or not
+pub below-or : (q n : ℕ) (C : Type 0) → (q < n → C) → (n ≤ q → C) → C
+below-or q n C below past = by (nat_lt q n) refl
+  where
+    by : (b : Bool) → nat_lt q n ≡ b → C
+    by true e = below (grind (arith, nat_tests, e))
+    by false e = past (grind (arith, nat_tests, e))
 
 -- after an operation on an object after which it is a prototype exactly where it was, all others are too
 pub protos-stay : (old : View) (new : Trail) (o : ℕ) → Adds (Touches old o) old.trail new → (root_in new o).is_proto ≡ (root_in old.trail o).is_proto → (p : ℕ) → (root_in new p).is_proto ≡ (root_in old.trail p).is_proto

@@ -28,17 +28,17 @@ use Rattle.hc_objects.proofs.Owning.{open-used}
 -- What a step leaves of the tree
 
 pub slot-tree : (t : Trail) (s w : ℕ) → TreeIsSame t (Slot s w ∷ t)
-slot-tree t s w = record { links = λ m. refl; gates = λ m. refl; lives = λ m. refl; roots = λ o. refl }
+slot-tree t s w = record { links = λ m. refl; gates = λ m. refl; lives = λ m. refl; roots = λ o. refl; details = λ f. refl; arrays = λ n. refl; bases = λ n. refl; keys = λ e. refl; references = λ e. refl }
 
 pub move-tree : (t : Trail) (o : ℕ) (h : Option ℕ) → TreeIsSame t (ObjectMap o h ∷ t)
-move-tree t o h = record { links = λ m. refl; gates = λ m. refl; lives = λ m. refl; roots = λ p. refl }
+move-tree t o h = record { links = λ m. refl; gates = λ m. refl; lives = λ m. refl; roots = λ p. refl; details = λ f. refl; arrays = λ n. refl; bases = λ n. refl; keys = λ e. refl; references = λ e. refl }
 
 pub store-tree : (t : Trail) (o : ℕ) (w : StoreWord) → TreeIsSame t (Store o w ∷ t)
-store-tree t o w = record { links = λ m. refl; gates = λ m. refl; lives = λ m. refl; roots = λ p. refl }
+store-tree t o w = record { links = λ m. refl; gates = λ m. refl; lives = λ m. refl; roots = λ p. refl; details = λ f. refl; arrays = λ n. refl; bases = λ n. refl; keys = λ e. refl; references = λ e. refl }
 
 -- an object is made a prototype
 pub proto-tree : (t : Trail) (o : ℕ) (r : RootWord) → r.map ≡ (root_in t o).map → TreeIsSame t (Root o r ∷ t)
-proto-tree t o r is = record { links = λ m. refl; gates = λ m. refl; lives = λ m. refl; roots = λ p. by p (eqb o p) refl }
+proto-tree t o r is = record { links = λ m. refl; gates = λ m. refl; lives = λ m. refl; roots = λ p. by p (eqb o p) refl; details = λ f. refl; arrays = λ n. refl; bases = λ n. refl; keys = λ e. refl; references = λ e. refl }
   where
     by : (p : ℕ) (b : Bool) → eqb o p ≡ b → (cond b r (root_in t p)).map ≡ (root_in t p).map
     by p true e = is ∙ ap (λ (x : ℕ). (root_in t x).map) (eqb-true o p e)

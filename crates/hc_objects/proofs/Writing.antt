@@ -8,6 +8,7 @@ use Rattle.hc_value.specs.declared.prop.Kind.{Kind}
 use Rattle.hc_heap.specs.Writes.{Slot}
 use Rattle.hc_heap.specs.Readings.{store_in}
 use Rattle.hc_heap.specs.Lawful.{IsFormOf, key_from, field_from}
+use Rattle.hc_value.specs.declared.field.Detail.{Detail}
 use Rattle.hc_heap.specs.Kept.{DetailsRise, GatesAreOpen, UnusedSaysNothing}
 use Rattle.hc_heap.specs.States.{View, IsHeap, with_write}
 use Rattle.hc_descs.specs.Entries.{key_at, field_at, entries_in, count_of}
@@ -76,7 +77,7 @@ module _ (laws : Laws) (old : View) (kept : List (Option Dictionary)) (of_null :
     field-here = ap (λ (b : Option ℕ). field_from old.trail b i) entry.is_base ∙ entry.is_field
 
     admits-all : detail_at old.trail so.map i ≡ Some tagged_field
-    admits-all = ap (detail_of old.trail) field-here ∙ (h.tree.maps so.map so.gate so.fast.is_open).tagged i entry.field place field-here
+    admits-all = ap (detail_of old.trail) field-here ∙ (entry.admits ∙ ap (λ (d : Detail). Some d) (h.tree.plain entry.field entry.detail entry.admits))
 
     kinds : entry.key.kind ≡ kind_of held
     kinds = kind-fast old.trail o so.map i (kind_of held) entry.key tagged_field key-here admits-all kind-here

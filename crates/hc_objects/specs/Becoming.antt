@@ -1,9 +1,12 @@
 -- How an object becomes a prototype.
-use Rattle.std.specs.Prelude.{◌≡◌, ◌≢◌, ℕ, true, IsTrue, Option, Some, None, List, ◌∷◌}
+use Rattle.hc_objects.specs.Rest.{MarksAt}
+use Rattle.hc_tree.specs.Growth.{marked}
+use Rattle.hc_heap.specs.Kept.{Adds}
+use Rattle.std.specs.Prelude.{◌≡◌, ◌≢◌, ℕ, true, IsTrue, Option, Some, None, List, ◌∷◌, ◌<◌, false}
 use Rattle.hc_board.specs.Trail.{Access}
 use Rattle.hc_value.specs.declared.reply.Cause.TheVariants.{Space}
 use Rattle.hc_heap.specs.Writes.{Trail, Root}
-use Rattle.hc_heap.specs.Readings.{prototype_in, map_in, root_in, store_in, slot_in}
+use Rattle.hc_heap.specs.Readings.{prototype_in, map_in, root_in, store_in, slot_in, bits_in}
 use Rattle.hc_heap.specs.States.{View}
 use Rattle.hc_descs.specs.Entries.{count_of}
 use Rattle.hc_tree.specs.Copying.{IsPrivateCopy, copy_need}
@@ -39,6 +42,9 @@ pub record IsOwned (old new : View) (o m : ℕ) : Type 0 where
   pub store : store_in new.trail o ≡ store_in old.trail o
   pub slots : (s : ℕ) → slot_in new.trail s ≡ slot_in old.trail s
   pub used : new.used ≡ with_need (copy_need true None (count_of old.trail m)) old.used
+  pub younger : m < old.used.maps
+  pub stable : (bits_in new.trail old.used.maps).unstable ≡ false
+  pub after : Adds (MarksAt m) (marked old.trail m) new.trail
 
 -- the dictionary of an object that is to be a prototype: there is one exactly where it is fast, and there is no room for a
 -- private map

@@ -15,6 +15,7 @@ use Rattle.hc_descs.specs.Entries.{key_at}
 use Rattle.hc_descs.specs.Copies.{HasEntriesOf}
 use Rattle.hc_tree.specs.Tree.{IsTree}
 use Rattle.hc_tree.specs.Copying.{detail_at}
+pub use Rattle.hc_tree.specs.Walking.{OpensNoRoot}
 use Rattle.hc_table.specs.World.{Object}
 use Rattle.hc_objects.specs.Meaning.{Dictionary, kept_of, slot_word, object_shown}
 use Rattle.hc_objects.specs.State.{Owns, AreHandedOut, IsKeptSo}
@@ -61,10 +62,6 @@ pub record IsWell (old new : View) (item : Option Dictionary) (o : ℕ) : Type 0
   pub store : AreHandedOut new.used.slots (store_in new.trail o)
   pub owns : (s : ℕ) → Owns new.trail o s → s < old.used.slots → Owns old.trail o s
   pub alone : (p m : ℕ) (g : GateWord) → p ≢ o → map_in new.trail o ≡ Some m → map_in old.trail p ≡ Some m → gate_in new.trail m ≡ Some g → g.is_private ≡ false
-
--- each map that was opened is private, or the child of another
-abbrev pub OpensNoRoot : Trail → Trail → Type 0
-OpensNoRoot old new = (m : ℕ) (g : GateWord) → gate_in old m ≡ None → gate_in new m ≡ Some g → g.is_private ≡ false → parent_in new m ≡ Some None → ⊥
 
 -- a property of this key that holds so much
 abbrev pub property : Key → Held → Prop

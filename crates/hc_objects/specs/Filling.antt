@@ -1,5 +1,5 @@
 -- How an object's slots are filled, and how it comes to a map with one entry more.
-use Rattle.std.specs.Prelude.{◌≡◌, ℕ, ◌+◌, ◌<◌, ◌≤◌, nat_lt, false, Some, if◌then◌else◌}
+use Rattle.std.specs.Prelude.{◌≡◌, ◌≢◌, ℕ, ◌+◌, ◌<◌, ◌≤◌, nat_lt, false, Some, if◌then◌else◌}
 use Rattle.hc_layout.specs.Capacity.{cap_of}
 use Rattle.hc_layout.specs.declared.shape.Region.TheVariants.{Slots}
 use Rattle.hc_layout.specs.declared.shape.Shape.{Shape}
@@ -13,11 +13,12 @@ use Rattle.hc_heap.specs.Readings.{map_in, root_in, store_in}
 use Rattle.hc_heap.specs.Lawful.{IsFormOf}
 use Rattle.hc_heap.specs.Kept.{Adds}
 use Rattle.hc_heap.specs.States.{View, HasRoom}
-use Rattle.hc_tree.specs.Growth.{child_need, live_child}
+use Rattle.hc_tree.specs.Growth.{child_need, live_child, marked}
 use Rattle.hc_tree.specs.Needs.{HasSpace, with_need}
 use Rattle.hc_tree.specs.Tree.{tagged_field}
 use Rattle.hc_objects.specs.Meaning.{held_in, slot_word}
 use Rattle.hc_objects.specs.State.{Owns, AreHandedOut}
+use Rattle.hc_objects.specs.Rest.{MarksAt}
 use Rattle.hc_objects.specs.Changes.{Changed, OpensNoRoot, IsGrown, SlotsStay, key_of}
 
 -- how many new slots an object needs that has n properties, and so many slots, to get one more
@@ -66,6 +67,8 @@ pub record IsMoved (old new : View) (o m n : ℕ) (p : Prop) : Type 0 where
   pub store : AreHandedOut new.used.slots (store_in new.trail o)
   pub owns : (s : ℕ) → Owns new.trail o s → s < old.used.slots → Owns old.trail o s
   pub objects : new.used.objects ≡ old.used.objects
+  pub other : child ≢ m
+  pub after : Adds (MarksAt m) (marked old.trail m) new.trail
 
 -- there is room for an object with n properties to get one more: for its slots, and for the child of its map where there is no live one
 pub record MayGrowBy (v : View) (o m n : ℕ) (key : Key) : Type 0 where

@@ -11,8 +11,22 @@ use Rattle.hc_objects.specs.Becoming.{IsSpare}
 use Rattle.hc_objects.specs.Came.{Steps}
 use Rattle.hc_objects.specs.Changes.{KeptBut}
 use Rattle.hc_objects.specs.Meaning.{Dictionary, cause_in, dictionary_object, kept_of}
-use Rattle.hc_objects.specs.Modes.{Becomes, IsNamed, IsWithin, if_fast, link_need, named_need, proto_need}
+use Rattle.hc_objects.specs.Modes.{Becomes, IsWithin, if_fast, link_need, proto_need}
+use Rattle.hc_objects.specs.Rest.{StartsByMark}
 use Rattle.hc_objects.specs.State.{ObjectsState}
+
+-- the prototype that an operation names
+abbrev pub if_named : Option ℕ → (ℕ → Need) → Need
+if_named (Some p) need = need p
+if_named None need = no_need
+
+-- what the prototype that an operation names became: fast where there is room for its private map
+abbrev pub IsNamed : {P : Type 0} → ObjectsState P → Option ℕ → ObjectsState P → Type 0
+IsNamed a proto b = IfSome proto (λ p. Becomes (cause_in a.kept p) None (HasSpace a.heap.view (proto_need a.heap.view.trail p)) (cause_in b.kept p))
+
+-- what it needed
+abbrev pub named_need : {P : Type 0} → ObjectsState P → Option ℕ → ObjectsState P → Need
+named_need a proto b = if_named proto (λ p. if_fast (cause_in b.kept p) (proto_need a.heap.view.trail p))
 
 -- the dictionary of what is named as prototype
 abbrev pub IsSpareOf : {P : Type 0} → ObjectsState P → Option ℕ → Option Dictionary → Type 0
@@ -45,15 +59,6 @@ pub record NamesSlow {P : Type 0} (s : ObjectsState P) (proto : Option ℕ) : Ty
   pub is : proto ≡ Some number
   pub slow : IsSome (kept_of s.kept number)
 
--- an object's map may have been made unstable; all else is as it was
-pub record IsMarked {P : Type 0} (goes_with : P → List Access → List Access → P → Type 0) (a b : ObjectsState P) : Type 0 where
-  pub steps : Steps goes_with a Moved b
-  pub kept : b.kept ≡ a.kept
-  pub null : b.of_null ≡ a.of_null
-  pub used : b.heap.view.used ≡ a.heap.view.used
-  pub roots : (q : ℕ) → root_in b.heap.view.trail q ≡ root_in a.heap.view.trail q
-  pub maps : (q : ℕ) → map_in b.heap.view.trail q ≡ map_in a.heap.view.trail q
-
 -- what was named as prototype is one now
 pub record IsNamedNow {P : Type 0} (goes_with : P → List Access → List Access → P → Type 0) (a : ObjectsState P) (proto : Option ℕ) (b : ObjectsState P) : Type 0 where
   pub steps : Steps goes_with a Moved b
@@ -73,3 +78,4 @@ pub record IsLinkedNow {P : Type 0} (goes_with : P → List Access → List Acce
   pub needs : IsWithin (link_need a.heap.view.trail o proto a.of_null) a.heap.view.used b.heap.view.used
   pub protos : (q : ℕ) → (root_in b.heap.view.trail q).is_proto ≡ (root_in a.heap.view.trail q).is_proto
   pub others : KeptBut o a.kept b.kept
+  pub starts : StartsByMark a.heap.view.trail b.heap.view.trail o

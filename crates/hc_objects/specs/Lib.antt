@@ -2,6 +2,7 @@ pub mod Listed
 pub mod Meaning
 pub mod State
 pub mod Changes
+pub mod Rest
 pub mod Filling
 pub mod Modes
 pub mod Privates

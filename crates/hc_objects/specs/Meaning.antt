@@ -16,12 +16,12 @@ use Rattle.hc_value.specs.declared.reply.Cause.{Cause}
 use Rattle.hc_value.specs.Word.{unwide_of, untagged_of, unpair_of, integer_of}
 use Rattle.hc_heap.specs.Writes.{Trail}
 use Rattle.hc_heap.specs.Readings.{gate_in, prototype_in, map_in, store_in}
-use Rattle.hc_heap.specs.Lawful.{word_from}
 use Rattle.hc_descs.specs.Entries.{key_at, count_of}
 use Rattle.hc_tree.specs.Copying.{detail_at}
 use Rattle.hc_table.specs.World.{Object, World, new_object}
 use Rattle.hc_objects.specs.Listed.{listed}
 pub use Rattle.hc_objects.specs.declared.dictionary.Dictionary.{Dictionary}
+pub use Rattle.hc_heap.specs.Lawful.{slot_word}
 
 -- a slow object
 abbrev pub dictionary_object : Dictionary → Object
@@ -53,10 +53,6 @@ no_property = record { name = 0; attrs = record { 0 = 0 }; held = Datum Undefine
 abbrev pub prop_of : Option Key → Option Detail → ℕ → Prop
 prop_of (Some key) (Some d) w = record { name = key.name; attrs = key.attrs; held = held_in key.kind d.rep w }
 prop_of _ _ w = no_property
-
--- the word of an object's k-th slot
-abbrev pub slot_word : Trail → ℕ → ℕ → ℕ
-slot_word t o k = word_from t (store_in t o).first k
 
 -- the property of a map's k-th entry, with the word of an object's k-th slot
 abbrev pub prop_in : Trail → ℕ → ℕ → ℕ → Prop

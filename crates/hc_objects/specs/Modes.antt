@@ -1,5 +1,5 @@
 -- Which objects an operation makes slow, and why; what it needs of each region; and which objects are alike.
-use Rattle.std.specs.Prelude.{◌≡◌, ◌≢◌, ◌↔◌, ℕ, zero, suc, ◌+◌, ◌≤◌, Bool, true, false, IsTrue, ◌<◌, ◌==◌, ◌&&◌, not, nat_lt, Option, Some, None, option_map, IfSome, if◌then◌else◌, List, length, map, slice_get, ⊤}
+use Rattle.std.specs.Prelude.{◌≡◌, ◌≢◌, ◌↔◌, ℕ, zero, suc, ◌+◌, ◌≤◌, Bool, true, false, ◌<◌, ◌==◌, ◌&&◌, not, nat_lt, Option, Some, None, option_map, IfSome, IsSomeAnd, if◌then◌else◌, List, length, map, slice_get, ⊤}
 use Rattle.hc_layout.specs.Capacity.{cap_of}
 use Rattle.hc_layout.specs.declared.capacity.TheConstants.{MAX_FAST}
 use Rattle.hc_layout.specs.declared.shape.Shape.{Shape}
@@ -16,6 +16,7 @@ use Rattle.hc_tree.specs.declared.need.Need.{Need}
 use Rattle.hc_tree.specs.Copying.{copy_need}
 use Rattle.hc_tree.specs.Growth.{child_need, live_child, root_need, root_of}
 use Rattle.hc_tree.specs.Needs.{HasSpace, no_need}
+pub use Rattle.hc_tree.specs.Needs.{IsNoLess, IsWithin, arrays_upto, both, walk_need}
 use Rattle.hc_tree.specs.Tree.{tagged_field}
 use Rattle.hc_table.specs.Changes.{Did, Nothing, Moved, Created, Added, Wrote, Reconfigured as Changed, Removed, Linked, Locked, Restricted}
 use Rattle.hc_table.specs.World.{object, props_at}
@@ -25,16 +26,6 @@ use Rattle.hc_objects.specs.Meaning.{Dictionary, cause_in, world}
 use Rattle.hc_objects.specs.State.{ObjectsState}
 
 -- Needs
-
--- what two operations need, one after the other
-abbrev pub both : Need → Need → Need
-both a b = record {
-  maps = a.maps + b.maps;
-  entries = a.entries + b.entries;
-  fields = a.fields + b.fields;
-  links = a.links + b.links;
-  slots = a.slots + b.slots;
-}
 
 -- what is needed of a fast object's map; a slow object needs nothing
 abbrev pub need_by : Option ℕ → (ℕ → Need) → Need
@@ -57,15 +48,6 @@ add_need t o p =
 abbrev pub proto_need : Trail → ℕ → Need
 proto_need t p = need_by (map_in t p) (λ m. if (root_in t p).is_proto then no_need else copy_need true None (count_of t m))
 
--- the entries of new maps with one entry, two, and so on up to n
-abbrev pub arrays_upto : ℕ → ℕ
-arrays_upto zero = 0
-arrays_upto (suc n) = arrays_upto n + cap_of (suc n)
-
--- a walk that makes a map for each of n properties
-abbrev pub walk_need : ℕ → Need
-walk_need n = record { maps = n; entries = arrays_upto n; fields = n; links = n; slots = 0 }
-
 -- an object gets another prototype: a private copy where it is or was a prototype itself, and else a walk from the root of
 -- the new one, which is made where there is none
 abbrev pub link_need : Trail → ℕ → Option ℕ → Option ℕ → Need
@@ -73,35 +55,12 @@ link_need t o proto of_null =
     need_by (map_in t o)
     (λ m. if (root_in t o).is_proto then copy_need false None (count_of t m) else both (walk_need (count_of t m)) (root_need (root_of t proto of_null)))
 
--- the prototype that an operation names
-abbrev pub if_named : Option ℕ → (ℕ → Need) → Need
-if_named (Some p) need = need p
-if_named None need = no_need
-
--- the most that an operation needs
+-- the most that an operation needs by itself, after the moves before it
 abbrev pub need_of : {P : Type 0} → ObjectsState P → Did → Need
-need_of a (Created proto) = both (if_named proto (proto_need a.heap.view.trail)) (root_need (root_of a.heap.view.trail proto a.of_null))
+need_of a (Created proto) = root_need (root_of a.heap.view.trail proto a.of_null)
 need_of a (Added o p) = add_need a.heap.view.trail o p
-need_of a (Linked o proto) = both (if_named proto (proto_need a.heap.view.trail)) (link_need a.heap.view.trail o proto a.of_null)
+need_of a (Linked o proto) = link_need a.heap.view.trail o proto a.of_null
 need_of a _ = no_need
-
--- no item was taken back
-pub record IsNoLess (old new : Shape) : Type 0 where
-  pub maps : old.maps ≤ new.maps
-  pub entries : old.entries ≤ new.entries
-  pub fields : old.fields ≤ new.fields
-  pub links : old.links ≤ new.links
-  pub slots : old.slots ≤ new.slots
-
--- no more items were handed out than were needed, no cell was, and none was taken back
-pub record IsWithin (need : Need) (old new : Shape) : Type 0 where
-  pub maps : new.maps ≤ old.maps + need.maps
-  pub entries : new.entries ≤ old.entries + need.entries
-  pub fields : new.fields ≤ old.fields + need.fields
-  pub links : new.links ≤ old.links + need.links
-  pub slots : new.slots ≤ old.slots + need.slots
-  pub cells : new.cells ≡ old.cells
-  pub rises : IsNoLess old new
 
 -- Modes
 
@@ -142,65 +101,34 @@ pub record IsOne {P : Type 0} (a : ObjectsState P) (o : ℕ) (given : Option Cau
 abbrev pub AllStay : {P : Type 0} → ObjectsState P → ObjectsState P → Type 0
 AllStay a b = (p : ℕ) → cause_in b.kept p ≡ cause_in a.kept p
 
--- some objects may have become slow, but none that was slow has another cause
-abbrev pub SlowOnesStay : {P : Type 0} → ObjectsState P → ObjectsState P → Type 0
-SlowOnesStay a b = (p : ℕ) → IfSome (cause_in a.kept p) (λ c. cause_in b.kept p ≡ Some c)
-
--- another property is put in the place of one: with another key it makes the object slow
+-- another property is put in the place of one: with another key it makes the object slow, and an equal one is no store
 pub record IsReconfigured {P : Type 0} (a : ObjectsState P) (o i : ℕ) (p : Prop) (b : ObjectsState P) : Type 0 where
   pub same : option_map key_of (slice_get (props_at (world a.heap.view.trail a.kept) o) i) ≡ Some (key_of p) → AllStay a b
   pub other : option_map key_of (slice_get (props_at (world a.heap.view.trail a.kept) o) i) ≢ Some (key_of p) → IsOne a o (Some Reconfigured) ⊤ b
+  pub none : slice_get (props_at (world a.heap.view.trail a.kept) o) i ≡ Some p → b.heap.desk.trail ≡ a.heap.desk.trail
 
--- what an object that an operation named as prototype needed: nothing where it is slow now
+-- what an object needs that is fast, and no item where it is slow
 abbrev pub if_fast : Option Cause → Need → Need
 if_fast None need = need
 if_fast (Some c) need = no_need
 
--- what the prototype that an operation names became: fast where there is room for its private map
-abbrev pub IsNamed : {P : Type 0} → ObjectsState P → Option ℕ → ObjectsState P → Type 0
-IsNamed a proto b = IfSome proto (λ p. Becomes (cause_in a.kept p) None (HasSpace a.heap.view (proto_need a.heap.view.trail p)) (cause_in b.kept p))
-
--- what it needed
-abbrev pub named_need : {P : Type 0} → ObjectsState P → Option ℕ → ObjectsState P → Need
-named_need a proto b = if_named proto (λ p. if_fast (cause_in b.kept p) (proto_need a.heap.view.trail p))
-
--- an object was made: fast exactly where there is room for the root of its prototype, after that became one
+-- an object was made: fast exactly where there is room for the root of its prototype
 pub record IsCreated {P : Type 0} (a : ObjectsState P) (proto : Option ℕ) (b : ObjectsState P) : Type 0 where
-  pub named : IsNamed a proto b
-  pub this : StaysFast (HasSpace a.heap.view (both (named_need a proto b) (root_need (root_of a.heap.view.trail proto a.of_null)))) (cause_in b.kept (length a.kept))
-  pub others : (p : ℕ) → p < length a.kept → proto ≢ Some p → cause_in b.kept p ≡ cause_in a.kept p
+  pub this : StaysFast (HasSpace a.heap.view (root_need (root_of a.heap.view.trail proto a.of_null))) (cause_in b.kept (length a.kept))
+  pub others : (p : ℕ) → p < length a.kept → cause_in b.kept p ≡ cause_in a.kept p
 
--- an object got another prototype
-pub record IsLinked {P : Type 0} (a : ObjectsState P) (o : ℕ) (proto : Option ℕ) (b : ObjectsState P) : Type 0 where
-  pub named : IsNamed a proto b
-  pub this : Becomes (cause_in a.kept o) None (HasSpace a.heap.view (both (named_need a proto b) (link_need a.heap.view.trail o proto a.of_null))) (cause_in b.kept o)
-  pub others : (p : ℕ) → p ≢ o → proto ≢ Some p → cause_in b.kept p ≡ cause_in a.kept p
-
--- what an operation made of the modes
+-- what an operation made of the modes, after the moves before it
 abbrev pub Modes : {P : Type 0} → ObjectsState P → Did → ObjectsState P → Type 0
 Modes a Nothing b = AllStay a b
-Modes a Moved b = SlowOnesStay a b
+Modes a Moved b = AllStay a b
 Modes a (Created proto) b = IsCreated a proto b
 Modes a (Added o p) b = IsOne a o (if_many (length (props_at (world a.heap.view.trail a.kept) o))) (HasSpace a.heap.view (add_need a.heap.view.trail o p)) b
 Modes a (Wrote o i held) b = AllStay a b
 Modes a (Changed o i p) b = IsReconfigured a o i p b
 Modes a (Removed o i) b = IsOne a o (if_deleted (root_in a.heap.view.trail o).is_proto (length (props_at (world a.heap.view.trail a.kept) o)) i) ⊤ b
-Modes a (Linked o proto) b = IsLinked a o proto b
+Modes a (Linked o proto) b = IsOne a o None (HasSpace a.heap.view (link_need a.heap.view.trail o proto a.of_null)) b
 Modes a (Locked o) b = IsOne a o (Some Reconfigured) ⊤ b
 Modes a (Restricted o frozen) b = IsOne a o (Some Reconfigured) ⊤ b
-
--- Prototypes
-
--- an operation names an object as prototype
-abbrev pub Names : Did → ℕ → Type 0
-Names (Created proto) p = proto ≡ Some p
-Names (Linked o proto) p = proto ≡ Some p
-Names _ p = ⊥
-
--- an object is or was a prototype afterwards exactly where it was before, or the operation names it
-pub record ProtosAfter (old : Trail) (did : Did) (new : Trail) : Type 0 where
-  pub named : (p : ℕ) → Names did p → IsTrue (root_in new p).is_proto
-  pub others : (p : ℕ) → (Names did p → ⊥) → (root_in new p).is_proto ≡ (root_in old p).is_proto
 
 -- Sharing
 
@@ -213,3 +141,7 @@ pub record AreAlike (t : Trail) (kept : List (Option Dictionary)) (a b : ℕ) : 
   pub shared_b : (root_in t b).is_proto ≡ false
   pub proto : (object (world t kept) a).proto ≡ (object (world t kept) b).proto
   pub keys : map key_of (props_at (world t kept) a) ≡ map key_of (props_at (world t kept) b)
+
+-- the words of two objects say one map
+abbrev pub HaveOneWord : Trail → ℕ → ℕ → Type 0
+HaveOneWord t a b = IsSomeAnd (map_in t a) (λ m. map_in t b ≡ Some m)

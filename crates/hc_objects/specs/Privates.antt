@@ -12,12 +12,13 @@ use Rattle.hc_heap.specs.States.{View, IsHeap}
 use Rattle.hc_descs.specs.Entries.{count_of, key_at}
 use Rattle.hc_tree.specs.declared.need.Need.{Need}
 use Rattle.hc_tree.specs.Copying.{IsPrivateCopy, More, copy_need, detail_at}
-use Rattle.hc_tree.specs.Growth.{MakesMap}
+use Rattle.hc_tree.specs.Growth.{MakesMap, marked}
 use Rattle.hc_tree.specs.Needs.{no_need, with_need}
 use Rattle.hc_tree.specs.Tree.{IsTree, gate_with, tagged_field}
 use Rattle.hc_objects.specs.Changes.{Changed, IsGrown, OpensNoRoot, SlotsStay, key_of}
 use Rattle.hc_objects.specs.Filling.{slots_need}
 use Rattle.hc_objects.specs.Meaning.{held_in, slot_word}
+use Rattle.hc_objects.specs.Rest.{MarksAt}
 use Rattle.hc_objects.specs.Modes.{IsWithin, both}
 use Rattle.hc_objects.specs.State.{AreHandedOut, Owns}
 
@@ -31,6 +32,7 @@ pub record IsCopied (fresh : Bool) (more : More) (proto : Option ℕ) (old new :
   pub copy : IsPrivateCopy fresh more proto new.trail old.used.maps m (count_of old.trail m) old.used.fields
   pub own : IsOwnMap new.trail old.used.maps
   pub unstable : IsTrue (bits_in new.trail m).unstable
+  pub after : Adds (MarksAt m) (marked old.trail m) new.trail
   pub used : new.used ≡ with_need (copy_need fresh more (count_of old.trail m)) old.used
   pub shape : new.shape ≡ old.shape
   pub tree : IsTree new.trail
@@ -53,6 +55,7 @@ pub record IsMovedToCopy (fresh : Bool) (old new : View) (o m n : ℕ) (proto : 
   pub store : store_in new.trail o ≡ store_in old.trail o
   pub words : SlotsStay old.trail new.trail o n
   pub used : new.used ≡ with_need (copy_need fresh None n) old.used
+  pub after : Adds (MarksAt m) (marked old.trail m) new.trail
 
 -- an object came from a map with n entries to a private one that has one more, and its slot holds what the property does
 pub record IsGrownAlone (old new : View) (o m n : ℕ) (p : Prop) : Type 0 where
@@ -70,3 +73,6 @@ pub record IsGrownAlone (old new : View) (o m n : ℕ) (p : Prop) : Type 0 where
   pub owns : (s : ℕ) → Owns new.trail o s → s < old.used.slots → Owns old.trail o s
   pub needs : IsWithin (private_need (key_of p) n (store_in old.trail o).capacity) old.used new.used
   pub objects : new.used.objects ≡ old.used.objects
+  pub younger : m < old.used.maps
+  pub stable : (bits_in new.trail old.used.maps).unstable ≡ false
+  pub after : Adds (MarksAt m) (marked old.trail m) new.trail

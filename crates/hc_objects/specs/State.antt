@@ -7,8 +7,8 @@ use Rattle.hc_heap.specs.Readings.{gate_in, parent_in, prototype_in, bits_in, ma
 use Rattle.hc_heap.specs.Lawful.{HoldsEntries}
 use Rattle.hc_heap.specs.States.{View, HeapState, IsHeap}
 use Rattle.hc_table.specs.Kept.{Kept, IsKept}
-use Rattle.hc_tree.specs.Tree.{IsTree, IsRoot}
-use Rattle.hc_tree.specs.Growth.{root_of}
+use Rattle.hc_tree.specs.Tree.{IsTree}
+pub use Rattle.hc_tree.specs.Walking.{AreRoots}
 use Rattle.hc_objects.specs.Meaning.{Dictionary, kept_of, world}
 
 -- objects: their heap, what is kept of slow ones, and the root of the maps that have no prototype
@@ -52,11 +52,6 @@ pub record AreHandedOut (slots : ℕ) (w : StoreWord) : Type 0 where
 -- no two objects have one private map
 abbrev pub AreAlone : Trail → ℕ → Type 0
 AreAlone t n = (a b m : ℕ) (g : GateWord) → a < n → b < n → map_in t a ≡ Some m → map_in t b ≡ Some m → gate_in t m ≡ Some g → IsTrue g.is_private → a ≡ b
-
--- a shared map that is nobody's child is the root that its prototype names; the root of null is one
-pub record AreRoots (t : Trail) (of_null : Option ℕ) : Type 0 where
-  pub null : IfSome of_null (λ r. IsRoot t None r)
-  pub named : (m : ℕ) (g : GateWord) (p : Option ℕ) → gate_in t m ≡ Some g → g.is_private ≡ false → parent_in t m ≡ Some None → prototype_in t m ≡ Some p → root_of t p of_null ≡ Some m
 
 -- the objects as tables see them
 abbrev pub tables_of : View → List (Option Dictionary) → Kept

@@ -10,8 +10,7 @@ ghost use Rattle.hc_tree.specs.Copying.{copy_need};
 ghost use Rattle.hc_tree.specs.Needs.{HasSpace, with_need};
 ghost use Rattle.hc_tree.specs.Tree.{IsTree};
 ghost use Rattle.hc_objects.specs.Becoming.{HasBecome, IsOwned, IsSettled, IsSpare, with_proto};
-ghost use Rattle.hc_objects.specs.Needs.{IsFew};
-ghost use Rattle.hc_objects.specs.Came.{Steps, IsStill, world_of};
+ghost use Rattle.hc_objects.specs.Came.{HowBecame, Steps, IsStill, world_of};
 ghost use Rattle.hc_objects.specs.Changes.{KeptBut};
 ghost use Rattle.hc_objects.specs.Meaning.{cause_in, kept_of};
 ghost use Rattle.hc_objects.specs.Modes.{Becomes, if_fast, proto_need};
@@ -22,25 +21,8 @@ use crate::fast::map_of;
 use crate::objects::Objects;
 use hc_heap::{Heap, Pace, details_rise, forms_are_kept, gates_are_open, unused_says_nothing};
 use hc_layout::RootWord;
-use hc_tree::{
-    Need, array_size, has_space, maps_are_kept, mark_unstable, private_copy, trees_stay,
-};
+use hc_tree::{has_space, maps_are_kept, mark_unstable, of_copy, private_copy, trees_stay};
 use hc_value::{Cause, Memory};
-
-// What a private copy needs of a map with n entries, with new fields.
-pub(crate) fn own_need(n: u32) -> Need
-    requires few { n ≤ MAX_FAST }
-    ensures need { result ≡ copy_need true None n }
-    ensures few { IsFew result }
-{
-    Need {
-        maps: 1,
-        entries: array_size(n),
-        fields: n,
-        links: 0,
-        slots: 0,
-    }
-}
 
 // Has an object be a prototype from now on, whose map, where it has one, is its own.
 fn set_is_proto<P: Pace>(h: &mut Heap<P>, object: u32)
@@ -104,6 +86,8 @@ impl<P: Pace> Objects<P> {
         ensures kept { self.new.kept ≡ self.old.kept }
         ensures null { self.new.of_null ≡ self.old.of_null }
         ensures used { self.new.heap.view.used ≡ self.old.heap.view.used }
+        ensures trail { self.new.heap.view.trail ≡ with_proto self.old.heap.view.trail p }
+        ensures how { HowBecame self.old p self.new }
     {
         maps_are_kept();
         details_rise();
@@ -121,6 +105,7 @@ impl<P: Pace> Objects<P> {
         ensures used { self.new.heap.view.used ≡ with_need (proto_need self.old.heap.view.trail p) self.old.heap.view.used }
         ensures kept { self.new.kept ≡ self.old.kept }
         ensures null { self.new.of_null ≡ self.old.of_null }
+        ensures how { HowBecame self.old p self.new }
     {
         maps_are_kept();
         details_rise();
@@ -140,7 +125,7 @@ impl<P: Pace> Objects<P> {
         gates_are_open();
         let map = map_of(&mut self.heap, p);
         let n = self.heap.gate(map).unwrap().entries;
-        has_space(&self.heap, own_need(n))
+        has_space(&self.heap, of_copy(true, n))
     }
 
     // The dictionary of an object that is to be a prototype, where it is fast, and there is no room for a private map.
@@ -168,6 +153,7 @@ impl<P: Pace> Objects<P> {
         requires object { p < length (world_of self.old) }
         requires spare { IsSpare self.old p spare }
         ensures settled { IsSettled P.went self.old p self.new }
+        ensures how { HowBecame self.old p self.new }
     {
         if let Some(slow) = spare {
             self.leave_with(p, slow);
@@ -182,25 +168,5 @@ impl<P: Pace> Objects<P> {
             return;
         }
         self.own_fast(p);
-    }
-
-    // Has an object be a prototype from now on: a fast one gets a private map, or is slow where there is no room for
-    // it. For want of memory alone nothing is stored.
-    pub(crate) fn become_prototype(&mut self, p: u32) -> Result<(), Memory>
-        requires object { p < length (world_of self.old) }
-        ensures moved { OnOk result (Steps P.went self.old Moved self.new) }
-        ensures mode { OnOk result (Becomes (cause_in self.old.kept p) None (HasSpace self.old.heap.view (proto_need self.old.heap.view.trail p)) (cause_in self.new.kept p)) }
-        ensures used { OnOk result (self.new.heap.view.used ≡ with_need (if_fast (cause_in self.new.kept p) (proto_need self.old.heap.view.trail p)) self.old.heap.view.used) }
-        ensures proto { OnOk result (IsTrue (root_in self.new.heap.view.trail p).is_proto) }
-        ensures protos { (q : ℕ) → q ≢ p → (root_in self.new.heap.view.trail q).is_proto ≡ (root_in self.old.heap.view.trail q).is_proto }
-        ensures roots { (q : ℕ) → (root_in self.new.heap.view.trail q).map ≡ (root_in self.old.heap.view.trail q).map }
-        ensures maps { (q : ℕ) → q ≢ p → map_in self.new.heap.view.trail q ≡ map_in self.old.heap.view.trail q }
-        ensures others { KeptBut p self.old.kept self.new.kept }
-        ensures null { self.new.of_null ≡ self.old.of_null }
-        ensures still { OnErr result (IsStill self.old self.new) }
-    {
-        let spare = self.spare(p)?;
-        self.settle(p, spare);
-        Ok(())
     }
 }

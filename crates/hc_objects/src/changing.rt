@@ -1,12 +1,13 @@
 //! Changes of one object, fast or slow, that keep how many properties it has.
-ghost use Rattle.std.specs.Prelude.{ℕ, ◌≡◌, ◌↔◌, ◌<◌, false, IsTrue, None, Some, IsSome, OnOk, OnErr, length, option_map, slice_get};
+ghost use Rattle.std.specs.Prelude.{ℕ, ◌≡◌, ◌≢◌, ◌↔◌, ◌<◌, false, IsTrue, None, Some, IsSome, OnOk, OnErr, length, option_map, slice_get};
 ghost use Rattle.hc_heap.specs.Readings.{root_in};
 ghost use Rattle.hc_table.specs.Attributes.{IsProper};
-ghost use Rattle.hc_table.specs.Changes.{Moved, Reconfigured, Locked, Restricted, name_at};
+ghost use Rattle.hc_table.specs.Changes.{Reconfigured, Locked, Restricted, name_at};
 ghost use Rattle.hc_table.specs.World.{props_at};
+ghost use Rattle.hc_objects.specs.Rest.{Marks};
 ghost use Rattle.hc_objects.specs.Changes.{key_of};
 ghost use Rattle.hc_objects.specs.Meaning.{kept_of};
-ghost use Rattle.hc_objects.specs.Came.{IsStill, Made, Steps, world_of};
+ghost use Rattle.hc_objects.specs.Came.{IsStill, Made, Moves, Steps, world_of};
 
 use crate::objects::Objects;
 use hc_heap::Pace;
@@ -43,17 +44,29 @@ impl<P: Pace> Objects<P> {
         ensures kept { self.new.kept ≡ self.old.kept }
         ensures used { self.new.heap.view.used ≡ self.old.heap.view.used }
         ensures protos { (q : ℕ) → (root_in self.new.heap.view.trail q).is_proto ≡ (root_in self.old.heap.view.trail q).is_proto }
+        ensures marks { Marks self.old.heap.view.trail self.new.heap.view.trail o }
     {
         self.write_fast(o, i, p.held);
     }
 
-    // Puts a property of the same name in the place of another. A fast object stays so where the keys are the same.
-    pub(crate) fn reconfigure(&mut self, o: u32, i: u32, p: Prop) -> Result<(), Memory>
+    // Whether the property at a place is this one.
+    fn holds(&mut self, o: u32, i: u32, p: &Prop) -> bool
+        requires object { o < length (world_of self.old) }
+        requires place { i < length (props_at (world_of self.old) o) }
+        ensures same { IsTrue result ↔ (slice_get (props_at (world_of self.old) o) i ≡ Some p.now) }
+        ensures still { IsStill self.old self.new }
+    {
+        self.prop_at(o, i) == *p
+    }
+
+    // Puts another property of the same name in the place of one. A fast object stays so where the keys are the same.
+    fn put_other(&mut self, o: u32, i: u32, p: Prop) -> Result<(), Memory>
         requires object { o < length (world_of self.old) }
         requires name { name_at (props_at (world_of self.old) o) i ≡ Some p.name }
         requires proper { IsProper p }
+        requires other { slice_get (props_at (world_of self.old) o) i ≢ Some p }
         ensures did { OnOk result (Made P.went self.old (Reconfigured o i p) self.new) }
-        ensures moved { OnErr result (Made P.went self.old Moved self.new) }
+        ensures moved { OnErr result (Moves P.went self.old self.new) }
     {
         if self.is_slow(o) {
             self.reconfigure_slow(o, i, p);
@@ -68,15 +81,31 @@ impl<P: Pace> Objects<P> {
         Ok(())
     }
 
+    // Puts a property of the same name in the place of another, and does nothing where they are equal.
+    pub(crate) fn reconfigure(&mut self, o: u32, i: u32, p: Prop) -> Result<(), Memory>
+        requires object { o < length (world_of self.old) }
+        requires name { name_at (props_at (world_of self.old) o) i ≡ Some p.name }
+        requires proper { IsProper p }
+        ensures did { OnOk result (Made P.went self.old (Reconfigured o i p) self.new) }
+        ensures moved { OnErr result (Moves P.went self.old self.new) }
+    {
+        if self.holds(o, i, &p) {
+            return Ok(());
+        }
+        self.put_other(o, i, p)
+    }
+
     // Has an object get no further property. It is slow from now on.
     pub(crate) fn lock(&mut self, o: u32) -> Result<(), Memory>
         requires object { o < length (world_of self.old) }
         ensures did { OnOk result (Made P.went self.old (Locked o) self.new) }
-        ensures moved { OnErr result (Made P.went self.old Moved self.new) }
+        ensures moved { OnErr result (Moves P.went self.old self.new) }
     {
-        if !self.is_slow(o) {
-            self.leave(o, Cause::Reconfigured)?;
+        if self.is_slow(o) {
+            self.lock_slow(o);
+            return Ok(());
         }
+        self.leave(o, Cause::Reconfigured)?;
         self.lock_slow(o);
         Ok(())
     }
@@ -85,11 +114,13 @@ impl<P: Pace> Objects<P> {
     pub(crate) fn restrict(&mut self, o: u32, frozen: bool) -> Result<(), Memory>
         requires object { o < length (world_of self.old) }
         ensures did { OnOk result (Made P.went self.old (Restricted o frozen) self.new) }
-        ensures moved { OnErr result (Made P.went self.old Moved self.new) }
+        ensures moved { OnErr result (Moves P.went self.old self.new) }
     {
-        if !self.is_slow(o) {
-            self.leave(o, Cause::Reconfigured)?;
+        if self.is_slow(o) {
+            self.restrict_slow(o, frozen);
+            return Ok(());
         }
+        self.leave(o, Cause::Reconfigured)?;
         self.restrict_slow(o, frozen);
         Ok(())
     }

@@ -5,9 +5,9 @@ ghost use Rattle.hc_value.specs.declared.reply.Cause.TheVariants.{Space};
 ghost use Rattle.hc_heap.specs.Readings.{root_in};
 ghost use Rattle.hc_heap.specs.States.{HasRoom};
 ghost use Rattle.hc_tree.specs.Growth.{MayBePrototype};
-ghost use Rattle.hc_table.specs.Changes.{Created, IsThere, Moved};
+ghost use Rattle.hc_table.specs.Changes.{Created, IsThere};
 ghost use Rattle.hc_table.specs.World.{new_object, object};
-ghost use Rattle.hc_objects.specs.Came.{IsStill, Made, world_of};
+ghost use Rattle.hc_objects.specs.Came.{Came, IsStill, Moves, world_of};
 ghost use Rattle.hc_objects.specs.Creating.{IsBegun, IsEntered};
 ghost use Rattle.hc_objects.specs.Meaning.{cause_in};
 
@@ -69,10 +69,10 @@ impl<P: Pace> Objects<P> {
     pub(crate) fn create(&mut self, proto: Option<u32>) -> Result<u32, TableFault>
         requires { IsThere (world_of self.old) proto }
         ensures number { IfOk result (λ o. o ≡ length (world_of self.old)) }
-        ensures did { OnOk result (Made P.went self.old (Created proto) self.new) }
+        ensures did { OnOk result (Came P.went self.old (Created proto) self.new) }
         ensures full { IsErrOf result TableFault.Full ↔ (length (world_of self.old) ≡ self.old.heap.view.shape.objects) }
         ensures still { OnErr result (IsStill self.old self.new) }
-        ensures moved { IsErrOf result TableFault.Memory → Made P.went self.old Moved self.new }
+        ensures moved { IsErrOf result TableFault.Memory → Moves P.went self.old self.new }
     {
         unused_says_nothing();
         if !self.heap.room(Region::Objects, 1) {
@@ -85,6 +85,7 @@ impl<P: Pace> Objects<P> {
             return Err(TableFault::Memory);
         };
         self.settle_named(proto, spare);
+        self.stands();
         self.enter_root(object, proto);
         Ok(object)
     }

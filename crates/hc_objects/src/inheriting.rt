@@ -1,48 +1,24 @@
 //! Changes of an object's prototype, whether the object is fast or slow.
 ghost use Rattle.std.specs.Prelude.{ℕ, ◌≡◌, ◌<◌, true, false, IsTrue, None, Some, IsSome, IfOk, IfSome, OnOk, OnErr, length};
 ghost use Rattle.hc_heap.specs.Readings.{root_in};
-ghost use Rattle.hc_table.specs.Changes.{IsThere, Linked, Moved, reaches};
+ghost use Rattle.hc_table.specs.Changes.{IsThere, Linked, reaches};
 ghost use Rattle.hc_table.specs.World.{object};
 ghost use Rattle.hc_tree.specs.Needs.{HasSpace};
-ghost use Rattle.hc_objects.specs.Came.{IsStill, Made, world_of};
-ghost use Rattle.hc_objects.specs.Inheriting.{IsLinkedNow, IsMarked, IsNamedNow, IsSpareFor, IsSpareOf, NamesSlow, spared_named, spared_need};
+ghost use Rattle.hc_objects.specs.Came.{AreMoves, Came, HowBecame, IsMarked, IsStill, Moves, moves_to_link, world_of};
+ghost use Rattle.hc_objects.specs.Inheriting.{IsLinkedNow, IsNamedNow, IsSpareFor, IsSpareOf, NamesSlow, spared_named, spared_need};
 ghost use Rattle.hc_objects.specs.Meaning.{kept_of};
 ghost use Rattle.hc_objects.specs.Needs.{IsFew};
 ghost use Rattle.hc_objects.specs.Modes.{both, link_need};
 
-use crate::becoming::own_need;
 use crate::dictionary::Dictionary;
 use crate::fast::map_of;
 use crate::objects::Objects;
-use crate::privates::need_of_copy;
-use crate::relinks::{known_root, need_of_link};
 use hc_heap::{Pace, details_rise, gates_are_open, unused_says_nothing};
-use hc_tree::{Need, has_space, maps_are_kept, mark_unstable, trees_stay};
-use hc_value::{Cause, Memory};
-
-// Nothing is needed.
-const NOTHING: Need = Need {
-    maps: 0,
-    entries: 0,
-    fields: 0,
-    links: 0,
-    slots: 0,
+use hc_tree::{
+    NONE, Need, has_space, known_root, maps_are_kept, mark_unstable, of_copy, of_retarget, plus,
+    trees_stay,
 };
-
-// What two operations need, one after the other.
-fn sum(a: Need, b: Need) -> Need
-    requires few { IsFew a }
-    requires few_too { IsFew b }
-    ensures { result ≡ both a b }
-{
-    Need {
-        maps: a.maps + b.maps,
-        entries: a.entries + b.entries,
-        fields: a.fields + b.fields,
-        links: a.links + b.links,
-        slots: a.slots + b.slots,
-    }
-}
+use hc_value::{Cause, Memory};
 
 impl<P: Pace> Objects<P> {
     // What an object needs to be a prototype, for which it makes this dictionary.
@@ -54,11 +30,11 @@ impl<P: Pace> Objects<P> {
     {
         gates_are_open();
         if spare.is_some() || self.is_slow(p) || self.is_proto(p) {
-            return NOTHING;
+            return NONE;
         }
         let map = map_of(&mut self.heap, p);
         let n = self.heap.gate(map).unwrap().entries;
-        own_need(n)
+        of_copy(true, n)
     }
 
     // What the prototype needs that is named, for which it makes this dictionary.
@@ -70,7 +46,7 @@ impl<P: Pace> Objects<P> {
     {
         match proto {
             Some(p) => self.need_to_become(p, spare),
-            None => NOTHING,
+            None => NONE,
         }
     }
 
@@ -86,10 +62,10 @@ impl<P: Pace> Objects<P> {
         let map = map_of(&mut self.heap, o);
         let n = self.heap.gate(map).unwrap().entries;
         if self.is_proto(o) {
-            return need_of_copy(n);
+            return of_copy(false, n);
         }
         let known = known_root(&mut self.heap, proto, self.of_null);
-        need_of_link(n, known)
+        of_retarget(n, known)
     }
 
     // The dictionary of a fast object that is to get another prototype, where there is no room for it to stay fast, after
@@ -108,7 +84,7 @@ impl<P: Pace> Objects<P> {
     {
         let named = self.need_of_named(proto, spare);
         let link = self.need_to_link(o, proto);
-        if has_space(&self.heap, sum(named, link)) {
+        if has_space(&self.heap, plus(named, link)) {
             return Ok(None);
         }
         let slow = self.dictionary(o, Cause::Space)?;
@@ -131,7 +107,7 @@ impl<P: Pace> Objects<P> {
     fn mark_map(&mut self, o: u32)
         requires object { o < length (world_of self.old) }
         requires fast { kept_of self.old.kept o ≡ None }
-        ensures marked { IsMarked P.went self.old self.new }
+        ensures marked { IsMarked P.went self.old o self.new }
     {
         maps_are_kept();
         details_rise();
@@ -146,6 +122,8 @@ impl<P: Pace> Objects<P> {
         requires there { IsThere (world_of self.old) proto }
         requires spare { IsSpareOf self.old proto spare }
         ensures named { IsNamedNow P.went self.old proto self.new }
+        ensures none { proto ≡ None → self.new ≡ self.old }
+        ensures how { IfSome proto (λ p. HowBecame self.old p self.new) }
     {
         if let Some(p) = proto {
             self.settle(p, spare);
@@ -156,6 +134,7 @@ impl<P: Pace> Objects<P> {
     fn names_slow(&self, proto: Option<u32>) -> bool
         requires there { IsThere (world_of self.now) proto }
         ensures slow { IsTrue result → NamesSlow self.now proto }
+        ensures fast { result ≡ false → (p : ℕ) → proto ≡ Some p → kept_of self.now.kept p ≡ None }
     {
         match proto {
             Some(p) => self.is_slow(p),
@@ -171,13 +150,16 @@ impl<P: Pace> Objects<P> {
         requires there { IsThere (world_of self.old) proto }
         requires spare { IsSpareOf self.old proto spare }
         ensures named { IsNamedNow P.went self.old proto self.new }
+        ensures moves { AreMoves P.went self.old (moves_to_link self.old o proto) self.new }
     {
         if self.names_slow(proto) {
             self.mark_map(o);
             self.settle_named(proto, spare);
+            self.stands();
             return;
         }
         self.settle_named(proto, spare);
+        self.stands();
     }
 
     // Gives a fast object another prototype, which is or was one already, and for which there is room.
@@ -222,8 +204,8 @@ impl<P: Pace> Objects<P> {
         requires slow { IsSome (kept_of self.old.kept o) }
         requires there { IsThere (world_of self.old) proto }
         requires no_cycle { reaches (world_of self.old) proto o ≡ false }
-        ensures did { OnOk result (Made P.went self.old (Linked o proto) self.new) }
-        ensures moved { OnErr result (Made P.went self.old Moved self.new) }
+        ensures did { OnOk result (Came P.went self.old (Linked o proto) self.new) }
+        ensures moved { OnErr result (Moves P.went self.old self.new) }
     {
         self.stands();
         let spare = self.spare_of(proto)?;
@@ -239,8 +221,8 @@ impl<P: Pace> Objects<P> {
         requires fast { kept_of self.old.kept o ≡ None }
         requires there { IsThere (world_of self.old) proto }
         requires no_cycle { reaches (world_of self.old) proto o ≡ false }
-        ensures did { OnOk result (Made P.went self.old (Linked o proto) self.new) }
-        ensures moved { OnErr result (Made P.went self.old Moved self.new) }
+        ensures did { OnOk result (Came P.went self.old (Linked o proto) self.new) }
+        ensures moved { OnErr result (Moves P.went self.old self.new) }
     {
         self.stands();
         let spare = self.spare_of(proto)?;
@@ -256,8 +238,8 @@ impl<P: Pace> Objects<P> {
         requires object { o < length (world_of self.old) }
         requires there { IsThere (world_of self.old) proto }
         requires no_cycle { reaches (world_of self.old) proto o ≡ false }
-        ensures did { OnOk result (Made P.went self.old (Linked o proto) self.new) }
-        ensures moved { OnErr result (Made P.went self.old Moved self.new) }
+        ensures did { OnOk result (Came P.went self.old (Linked o proto) self.new) }
+        ensures moved { OnErr result (Moves P.went self.old self.new) }
     {
         if self.is_slow(o) {
             return self.set_of_slow(o, proto);

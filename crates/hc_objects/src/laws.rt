@@ -1,19 +1,31 @@
-//! What follows of what was done, for proofs above. The function does nothing: its contract is a law.
-ghost use Rattle.std.specs.Prelude.{ℕ, ◌+◌, ⊤};
+//! What follows of what was done, for proofs above. The functions do nothing: their contracts are laws.
+ghost use Rattle.std.specs.Prelude.{ℕ, ◌≡◌, ◌+◌};
+ghost use Rattle.hc_board.specs.States.{WriterState};
+ghost use Rattle.hc_heap.specs.Kept.{GoesOn};
+ghost use Rattle.hc_heap.specs.States.{View, IsHeap, IsDesk, Goes};
 ghost use Rattle.hc_table.specs.Changes.{Did};
 ghost use Rattle.hc_objects.specs.Came.{Came};
-ghost use Rattle.hc_objects.specs.Spent.{IsFinished, IsSpent};
+ghost use Rattle.hc_objects.specs.Spent.{IsSpent};
 ghost use Rattle.hc_objects.specs.State.{ObjectsState, IsObjects};
 
-use hc_heap::gates_are_open;
+use hc_heap::{Pace, gates_are_open, positions_are_stores, positions_go_on, stores_are_writes};
 
-/// An operation hands out no more than the greatest need, and leaves an object slow for want of room only where some
-/// region is nearly full; so do several, one after the other.
-pub fn operations_spend_little()
-    ensures one { (a b : ObjectsState ⊤) (did : Did) → IsObjects a.heap.view a.kept a.of_null → IsFinished did
-        → Came (λ _ _ _ _. ⊤) a did b → IsSpent 1 a b }
-    ensures none { (n : ℕ) (a : ObjectsState ⊤) → IsSpent n a a }
-    ensures onward { (m n : ℕ) (a b c : ObjectsState ⊤) → IsSpent m a b → IsSpent n b c → IsSpent (m + n) a c }
+/// Where the board's stores go on, so do the writes that are read from them, and each of these is lawful.
+pub fn writes_go_on()
+    ensures law { (v w : View) (d e : WriterState) → IsDesk v d → IsDesk w e → IsHeap w → w.shape ≡ v.shape → Goes d e
+        → GoesOn w.shape v.trail w.trail }
+{
+    positions_are_stores();
+    positions_go_on();
+    stores_are_writes();
+}
+
+/// An operation, and the moves that want of memory leaves, hand out no more than an operation may need, and leave an object
+/// slow for want of room only where some region is nearly full; so do several, one after the other.
+pub fn operations_spend_little<P: Pace>()
+    ensures one { (a b : ObjectsState P) (did : Did) → IsObjects a.heap.view a.kept a.of_null → Came P.went a did b → IsSpent 1 a b }
+    ensures none { (n : ℕ) (a : ObjectsState P) → IsSpent n a a }
+    ensures onward { (m n : ℕ) (a b c : ObjectsState P) → IsSpent m a b → IsSpent n b c → IsSpent (m + n) a c }
 {
     gates_are_open();
 }

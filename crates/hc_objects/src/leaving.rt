@@ -7,6 +7,7 @@ ghost use Rattle.hc_table.specs.Attributes.{IsProper};
 ghost use Rattle.hc_table.specs.Changes.{Moved};
 ghost use Rattle.hc_table.specs.World.{HaveDistinctNames, object};
 ghost use Rattle.hc_tree.specs.Growth.{IsUnmoved};
+ghost use Rattle.hc_objects.specs.Rest.{Marks};
 ghost use Rattle.hc_objects.specs.Changes.{KeptBut};
 ghost use Rattle.hc_objects.specs.Meaning.{cause_in, dictionary_object, fast_props, kept_of, object_shown};
 ghost use Rattle.hc_objects.specs.State.{HasMap};
@@ -102,6 +103,8 @@ impl<P: Pace> Objects<P> {
         ensures used { self.new.heap.view.used ≡ self.old.heap.view.used }
         ensures roots { (q : ℕ) → root_in self.new.heap.view.trail q ≡ root_in self.old.heap.view.trail q }
         ensures maps { (q : ℕ) → q ≢ o → map_in self.new.heap.view.trail q ≡ map_in self.old.heap.view.trail q }
+        ensures marks { Marks self.old.heap.view.trail self.new.heap.view.trail o }
+        ensures gone { map_in self.new.heap.view.trail o ≡ None }
     {
         maps_are_kept();
         details_rise();
@@ -124,6 +127,7 @@ impl<P: Pace> Objects<P> {
         ensures used { self.new.heap.view.used ≡ self.old.heap.view.used }
         ensures roots { (q : ℕ) → root_in self.new.heap.view.trail q ≡ root_in self.old.heap.view.trail q }
         ensures maps { (q : ℕ) → q ≢ o → map_in self.new.heap.view.trail q ≡ map_in self.old.heap.view.trail q }
+        ensures marks { OnOk result (Marks self.old.heap.view.trail self.new.heap.view.trail o) }
     {
         let slow = self.dictionary(o, cause)?;
         self.leave_with(o, slow);

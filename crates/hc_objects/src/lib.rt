@@ -23,12 +23,8 @@ mod slots;
 mod slow;
 mod stores;
 mod tables;
-mod walking;
 mod writes;
 
 pub use dictionary::Dictionary;
-pub use laws::operations_spend_little;
+pub use laws::{operations_spend_little, writes_go_on};
 pub use objects::Objects;
-
-#[cfg(test)]
-mod tests;

@@ -1,8 +1,8 @@
 //! Objects, fast and slow.
 ghost use Rattle.std.specs.Prelude.{◌≡◌, ◌<◌, ◌↔◌, None, Some, [], length, IfOk, IsSome};
-ghost use Rattle.hc_board.specs.States.{TableId, counted};
+ghost use Rattle.hc_board.specs.States.{AllFit, TableId, counted};
 ghost use Rattle.hc_heap.specs.Readings.{map_in};
-ghost use Rattle.hc_heap.specs.States.{no_items};
+ghost use Rattle.hc_heap.specs.States.{IsDesk, OnlyLoads, no_items};
 ghost use Rattle.hc_layout.specs.Shape.{IsShape, items_of};
 ghost use Rattle.hc_objects.specs.Meaning.{kept_of};
 ghost use Rattle.hc_objects.specs.State.{IsObjects};
@@ -54,11 +54,14 @@ impl<P: Pace> Objects<P> {
         })
     }
 
-    /// What holds of objects.
+    /// What holds of objects: the words and the dictionaries are sound, the words are those of the board's stores, and the
+    /// pace fits the board.
     pub fn stands(&self)
         ensures sound { IsObjects self.now.heap.view self.now.kept self.now.of_null }
+        ensures desk { IsDesk self.now.heap.view self.now.heap.desk }
+        ensures fits { P.fits self.now.heap.pace self.now.heap.desk.board }
     {
-        let _kept = &self.kept;
+        self.heap.stands();
     }
 
     /// How many items of a region were handed out.
@@ -75,9 +78,10 @@ impl<P: Pace> Objects<P> {
         self.heap.writes()
     }
 
-    /// The number of met entries, up to the end of its type.
+    /// The number of met entries, up to the end of its type. Each of them fits the stores.
     pub fn met(&self) -> u64
         ensures count { result ≡ counted (length self.now.heap.desk.met) }
+        ensures fits { AllFit self.now.heap.desk }
     {
         self.heap.met()
     }
@@ -88,6 +92,7 @@ impl<P: Pace> Objects<P> {
         ensures value { result ≡ map_in self.old.heap.view.trail o }
         ensures slow { (result ≡ None) ↔ IsSome (kept_of self.old.kept o) }
         ensures still { IsStill self.old self.new }
+        ensures loads { OnlyLoads 1 self.old.heap.desk self.new.heap.desk }
     {
         self.heap.object_map(o)
     }

@@ -13,6 +13,7 @@ ghost use Rattle.hc_tree.specs.Copying.{MayBeLast, copied_count, copy_need};
 ghost use Rattle.hc_tree.specs.Growth.{IsUnmoved, MayBePrototype};
 ghost use Rattle.hc_tree.specs.Needs.{HasSpace};
 ghost use Rattle.hc_tree.specs.Tree.{IsProperKey, IsTree, gate_with, tagged_field};
+ghost use Rattle.hc_objects.specs.Rest.{Marks, StartsByMark};
 ghost use Rattle.hc_objects.specs.Needs.{IsFew};
 ghost use Rattle.hc_objects.specs.Came.{Steps, IsStill, world_of};
 ghost use Rattle.hc_objects.specs.Changes.{key_of};
@@ -28,10 +29,10 @@ use crate::held::held_word;
 use crate::objects::Objects;
 use crate::stores::{fill_next, slots_needed};
 use hc_heap::{Heap, Pace, details_rise, forms_are_kept, gates_are_open, unused_says_nothing};
-use hc_layout::cap;
 use hc_table::changes_keep;
 use hc_tree::{
-    Need, array_size, has_space, maps_are_kept, mark_unstable, private_copy, trees_stay,
+    Need, has_space, maps_are_kept, mark_unstable, of_copy, of_longer_copy, private_copy,
+    trees_stay, with_slots,
 };
 use hc_value::{Detail, Key, Prop};
 
@@ -40,28 +41,7 @@ fn need_of_growth(n: u32, capacity: u32) -> Need
     requires few { n < MAX_FAST }
     ensures { (key : KeyOfProperty) → result ≡ private_need key n capacity }
 {
-    Need {
-        maps: 1,
-        entries: cap(n + 1),
-        fields: 1,
-        links: 0,
-        slots: slots_needed(n, capacity),
-    }
-}
-
-// What a private copy needs of a map with n entries that keeps its fields.
-pub(crate) fn need_of_copy(n: u32) -> Need
-    requires few { n ≤ MAX_FAST }
-    ensures need { result ≡ copy_need false None n }
-    ensures few { IsFew result }
-{
-    Need {
-        maps: 1,
-        entries: array_size(n),
-        fields: 0,
-        links: 0,
-        slots: 0,
-    }
+    with_slots(of_longer_copy(n), slots_needed(n, capacity))
 }
 
 // The entry for a property, whose field admits everything.
@@ -90,7 +70,7 @@ pub(crate) fn copy_map<P: Pace>(
     requires few { copied_count more (count_of h.old.view.trail map) ≤ MAX_FAST }
     requires proto { MayBePrototype h.old.view.used h.old.view.trail proto }
     requires alone { IsTrue fresh → more ≡ None }
-    requires more { IfSome more (λ e. MayBeLast h.old.view.trail map e.0 e.1) }
+    requires more { IfSome more (λ e. MayBeLast h.old.view.shape h.old.view.trail map e.0 e.1) }
     requires space { HasSpace h.old.view (copy_need fresh more (count_of h.old.view.trail map)) }
     ensures number { result ≡ h.old.view.used.maps }
     ensures copied { IsCopied fresh more proto h.old.view h.new.view map }
@@ -191,7 +171,7 @@ fn link_alone<P: Pace>(h: &mut Heap<P>, object: u32, map: u32, n: u32, proto: Op
     unused_says_nothing();
     gates_are_open();
     h.stands();
-    if !has_space(h, need_of_copy(n)) {
+    if !has_space(h, of_copy(false, n)) {
         return false;
     }
     let copy = copy_map(h, map, false, proto, None);
@@ -217,6 +197,7 @@ impl<P: Pace> Objects<P> {
         ensures still { result ≡ false → IsStill self.old self.new }
         ensures kept { self.new.kept ≡ self.old.kept }
         ensures null { self.new.of_null ≡ self.old.of_null }
+        ensures marks { IsTrue result → Marks self.old.heap.view.trail self.new.heap.view.trail o }
     {
         maps_are_kept();
         details_rise();
@@ -244,6 +225,7 @@ impl<P: Pace> Objects<P> {
         ensures still { result ≡ false → IsStill self.old self.new }
         ensures kept { self.new.kept ≡ self.old.kept }
         ensures null { self.new.of_null ≡ self.old.of_null }
+        ensures starts { IsTrue result → StartsByMark self.old.heap.view.trail self.new.heap.view.trail o }
     {
         maps_are_kept();
         details_rise();

@@ -4,14 +4,15 @@ ghost use Rattle.hc_layout.specs.declared.capacity.TheConstants.{MAX_FAST};
 ghost use Rattle.hc_value.specs.Prop.{kind_of};
 ghost use Rattle.hc_heap.specs.Readings.{root_in};
 ghost use Rattle.hc_table.specs.Attributes.{IsProper};
-ghost use Rattle.hc_table.specs.Changes.{Added, Moved, Wrote, kind_at};
+ghost use Rattle.hc_table.specs.Changes.{Added, Wrote, kind_at};
 ghost use Rattle.hc_table.specs.Ranges.{IsHeldInRange};
 ghost use Rattle.hc_table.specs.World.{object, props_at, place_of};
 ghost use Rattle.hc_tree.specs.Needs.{HasSpace};
+ghost use Rattle.hc_objects.specs.Rest.{Marks};
 ghost use Rattle.hc_objects.specs.Changes.{KeptBut};
 ghost use Rattle.hc_objects.specs.Meaning.{cause_in, kept_of};
 ghost use Rattle.hc_objects.specs.Modes.{add_need};
-ghost use Rattle.hc_objects.specs.Came.{IsStill, Made, Steps, world_of};
+ghost use Rattle.hc_objects.specs.Came.{IsStill, Made, MayLeave, Moves, Steps, world_of};
 
 use crate::objects::Objects;
 use hc_heap::Pace;
@@ -52,14 +53,17 @@ impl<P: Pace> Objects<P> {
         requires fast { kept_of self.old.kept o ≡ None }
         requires absent { place_of (props_at (world_of self.old) o) p.now.name ≡ None }
         requires proper { IsProper p.now }
+        requires why { MayLeave self.old o cause }
         ensures added { OnOk result (Steps P.went self.old (Added o p.now) self.new) }
-        ensures moved { OnErr result (Made P.went self.old Moved self.new) }
+        ensures moved { OnErr result (Moves P.went self.old self.new) }
         ensures cause { OnOk result (cause_in self.new.kept o ≡ Some cause) }
         ensures others { KeptBut o self.old.kept self.new.kept }
         ensures used { self.new.heap.view.used ≡ self.old.heap.view.used }
         ensures protos { (q : ℕ) → (root_in self.new.heap.view.trail q).is_proto ≡ (root_in self.old.heap.view.trail q).is_proto }
+        ensures marks { OnOk result (Marks self.old.heap.view.trail self.new.heap.view.trail o) }
     {
         self.leave(o, cause)?;
+        self.stands();
         self.add_slow(o, *p)
     }
 
@@ -71,7 +75,7 @@ impl<P: Pace> Objects<P> {
         requires extensible { (object (world_of self.old) o).extensible ≡ true }
         requires proper { IsProper p }
         ensures did { OnOk result (Made P.went self.old (Added o p) self.new) }
-        ensures moved { OnErr result (Made P.went self.old Moved self.new) }
+        ensures moved { OnErr result (Moves P.went self.old self.new) }
     {
         if self.len(o) >= MAX_FAST {
             return self.leave_and_add(o, Cause::Many, &p);
@@ -89,7 +93,7 @@ impl<P: Pace> Objects<P> {
         requires extensible { (object (world_of self.old) o).extensible ≡ true }
         requires proper { IsProper p }
         ensures did { OnOk result (Made P.went self.old (Added o p) self.new) }
-        ensures moved { OnErr result (Made P.went self.old Moved self.new) }
+        ensures moved { OnErr result (Moves P.went self.old self.new) }
     {
         if self.is_slow(o) {
             return self.add_slow(o, p);

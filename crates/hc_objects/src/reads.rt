@@ -1,6 +1,7 @@
-//! Reads of objects. They leave all as it was, but for loads.
-ghost use Rattle.std.specs.Prelude.{◌≡◌, ◌<◌, ◌≤◌, Some, length, slice_get};
+//! Reads of objects. They leave all as it was, but for a few loads.
+ghost use Rattle.std.specs.Prelude.{◌≡◌, ◌+◌, ◌<◌, ◌≤◌, Some, length, slice_get};
 ghost use Rattle.std.specs.Option.{option_copied};
+ghost use Rattle.hc_heap.specs.States.{OnlyLoads};
 ghost use Rattle.hc_table.specs.Attributes.{IsProper};
 ghost use Rattle.hc_table.specs.World.{IsWorld, object, props_at, place_of};
 ghost use Rattle.hc_objects.specs.Meaning.{kept_of};
@@ -35,6 +36,7 @@ impl<P: Pace> Objects<P> {
         requires { o < length (world_of self.old) }
         ensures proto { result ≡ (object (world_of self.old) o).proto }
         ensures still { IsStill self.old self.new }
+        ensures loads { OnlyLoads 2 self.old.heap.desk self.new.heap.desk }
         ensures sound { IsWorld (world_of self.old) }
     {
         if let Some(slow) = self.slow(o) {
@@ -48,6 +50,7 @@ impl<P: Pace> Objects<P> {
         requires { o < length (world_of self.old) }
         ensures extensible { result ≡ (object (world_of self.old) o).extensible }
         ensures still { IsStill self.old self.new }
+        ensures loads { OnlyLoads 2 self.old.heap.desk self.new.heap.desk }
         ensures sound { IsWorld (world_of self.old) }
     {
         if let Some(slow) = self.slow(o) {
@@ -61,6 +64,7 @@ impl<P: Pace> Objects<P> {
         requires { o < length (world_of self.old) }
         ensures len { result ≡ length (props_at (world_of self.old) o) }
         ensures still { IsStill self.old self.new }
+        ensures loads { OnlyLoads 2 self.old.heap.desk self.new.heap.desk }
         ensures sound { IsWorld (world_of self.old) }
     {
         if let Some(slow) = self.slow(o) {
@@ -74,6 +78,7 @@ impl<P: Pace> Objects<P> {
         requires { o < length (world_of self.old) }
         ensures place { result ≡ place_of (props_at (world_of self.old) o) name }
         ensures still { IsStill self.old self.new }
+        ensures loads { OnlyLoads (length (props_at (world_of self.old) o) + 3) self.old.heap.desk self.new.heap.desk }
         ensures sound { IsWorld (world_of self.old) }
     {
         if let Some(slow) = self.slow(o) {
@@ -89,6 +94,7 @@ impl<P: Pace> Objects<P> {
         ensures prop { slice_get (props_at (world_of self.old) o) i ≡ Some result }
         ensures proper { IsProper result }
         ensures still { IsStill self.old self.new }
+        ensures loads { OnlyLoads 7 self.old.heap.desk self.new.heap.desk }
         ensures sound { IsWorld (world_of self.old) }
     {
         if let Some(slow) = self.slow(o) {

@@ -9,96 +9,20 @@ ghost use Rattle.hc_tree.specs.Needs.{HasSpace};
 ghost use Rattle.hc_tree.specs.Tree.{IsTree, gate_with};
 ghost use Rattle.hc_table.specs.Changes.{IsThere, Linked, reaches};
 ghost use Rattle.hc_table.specs.World.{object};
-ghost use Rattle.hc_objects.specs.Needs.{IsFew};
 ghost use Rattle.hc_objects.specs.Came.{Steps, IsStill, world_of};
 ghost use Rattle.hc_objects.specs.Linking.{HasMapFor, IsRelinked, shared_need};
 ghost use Rattle.hc_objects.specs.Meaning.{kept_of};
+ghost use Rattle.hc_objects.specs.Rest.{StartsByMark};
 ghost use Rattle.hc_objects.specs.Modes.{IsWithin, arrays_upto, both, link_need, walk_need};
 ghost use Rattle.hc_objects.specs.State.{AreRoots};
 
 use crate::fast::map_of;
 use crate::objects::Objects;
-use crate::walking::walk;
 use hc_heap::{Heap, Pace, details_rise, gates_are_open, set_is_kept, unused_says_nothing};
-use hc_layout::{MAX_FAST, cap};
 use hc_table::changes_keep;
-use hc_tree::{Need, has_space, maps_are_kept, mark_unstable, root, trees_stay};
-
-// How many entries the maps have that a walk makes for n properties.
-fn entries_of_walk(n: u32) -> u32
-    requires few { n ≤ MAX_FAST }
-    ensures value { result ≡ arrays_upto n }
-    ensures most { result ≤ n * MAX_FAST }
-{
-    let mut entries = 0;
-    for k in 0..n {
-        entries += cap(k + 1);
-    }
-    entries
-}
-
-// What an object with n properties needs to get another prototype, whose root may be there.
-pub(crate) fn need_of_link(n: u32, root: Option<u32>) -> Need
-    requires few { n ≤ MAX_FAST }
-    ensures need { result ≡ both (walk_need n) (root_need root) }
-    ensures few { IsFew result }
-{
-    let roots = match root {
-        Some(_) => 0,
-        None => 1,
-    };
-    Need {
-        maps: n + roots,
-        entries: entries_of_walk(n),
-        fields: n,
-        links: n,
-        slots: 0,
-    }
-}
-
-// The root that a prototype, or null, has.
-pub(crate) fn known_root<P: Pace>(
-    h: &mut Heap<P>,
-    proto: Option<u32>,
-    of_null: Option<u32>,
-) -> Option<u32>
-    ensures value { result ≡ root_of h.old.view.trail proto of_null }
-    ensures still { IsUnmoved h.old h.new }
-    ensures goes { Goes h.old.desk h.new.desk }
-    ensures went { P.went h.old.pace h.old.desk.trail h.new.desk.trail h.new.pace }
-{
-    match proto {
-        Some(object) => h.object_root(object).map,
-        None => of_null,
-    }
-}
-
-// The shared map with a prototype and the n keys of a map. Maps that are missing are made, for which there is room.
-fn map_for<P: Pace>(
-    h: &mut Heap<P>,
-    map: u32,
-    n: u32,
-    proto: Option<u32>,
-    of_null: &mut Option<u32>,
-) -> u32
-    requires tree { IsTree h.old.view.trail }
-    requires live { (m : ℕ) → (bits_in h.old.view.trail m).deprecated ≡ false }
-    requires roots { AreRoots h.old.view.trail of_null.old }
-    requires map { gate_in h.old.view.trail map ≡ Some (gate_with n false) }
-    requires proto { MayBePrototype h.old.view.used h.old.view.trail proto }
-    requires space { HasSpace h.old.view (shared_need h.old.view.trail n proto of_null.old) }
-    ensures found { HasMapFor h.old.view h.new.view of_null.old of_null.new map result n proto }
-    ensures goes { Goes h.old.desk h.new.desk }
-    ensures went { P.went h.old.pace h.old.desk.trail h.new.desk.trail h.new.pace }
-{
-    maps_are_kept();
-    details_rise();
-    h.stands();
-    let Ok(root) = root(h, proto, of_null) else {
-        unreachable!()
-    };
-    walk(h, root, map, n)
-}
+use hc_tree::{
+    has_space, known_root, map_for, maps_are_kept, mark_unstable, of_retarget, trees_stay,
+};
 
 // Has an object with a shared map get another prototype, for which there is room: it comes to the map with the same
 // keys.
@@ -165,7 +89,7 @@ fn link_object<P: Pace>(
     gates_are_open();
     h.stands();
     let known = known_root(h, proto, *of_null);
-    if !has_space(h, need_of_link(n, known)) {
+    if !has_space(h, of_retarget(n, known)) {
         return false;
     }
     relink(h, object, map, n, proto, of_null);
@@ -188,6 +112,7 @@ impl<P: Pace> Objects<P> {
         ensures protos { (q : ℕ) → (root_in self.new.heap.view.trail q).is_proto ≡ (root_in self.old.heap.view.trail q).is_proto }
         ensures still { result ≡ false → IsStill self.old self.new }
         ensures kept { self.new.kept ≡ self.old.kept }
+        ensures starts { IsTrue result → StartsByMark self.old.heap.view.trail self.new.heap.view.trail o }
     {
         maps_are_kept();
         details_rise();

@@ -5,13 +5,14 @@ ghost use Rattle.hc_heap.specs.Lawful.{HoldsEntries};
 ghost use Rattle.hc_heap.specs.Readings.{gate_in, map_in, root_in};
 ghost use Rattle.hc_heap.specs.States.{IsHeap, Goes};
 ghost use Rattle.hc_heap.specs.Writes.{ObjectMap};
-ghost use Rattle.hc_table.specs.Changes.{Moved, Removed};
+ghost use Rattle.hc_table.specs.Changes.{Removed};
 ghost use Rattle.hc_table.specs.World.{props_at};
 ghost use Rattle.hc_tree.specs.Growth.{marked};
 ghost use Rattle.hc_tree.specs.Tree.{IsTree};
+ghost use Rattle.hc_objects.specs.Rest.{Marks};
 ghost use Rattle.hc_objects.specs.Meaning.{kept_of};
 ghost use Rattle.hc_objects.specs.Modes.{if_deleted};
-ghost use Rattle.hc_objects.specs.Came.{IsStill, Made, Steps, world_of};
+ghost use Rattle.hc_objects.specs.Came.{IsStill, Made, Moves, Steps, world_of};
 
 use crate::fast::map_of;
 use crate::objects::Objects;
@@ -67,6 +68,7 @@ impl<P: Pace> Objects<P> {
         ensures null { self.new.of_null ≡ self.old.of_null }
         ensures used { self.new.heap.view.used ≡ self.old.heap.view.used }
         ensures protos { (q : ℕ) → (root_in self.new.heap.view.trail q).is_proto ≡ (root_in self.old.heap.view.trail q).is_proto }
+        ensures marks { Marks self.old.heap.view.trail self.new.heap.view.trail o }
     {
         maps_are_kept();
         details_rise();
@@ -85,7 +87,7 @@ impl<P: Pace> Objects<P> {
         requires object { o < length (world_of self.old) }
         requires place { i < length (props_at (world_of self.old) o) }
         ensures did { OnOk result (Made P.went self.old (Removed o i) self.new) }
-        ensures moved { OnErr result (Made P.went self.old Moved self.new) }
+        ensures moved { OnErr result (Moves P.went self.old self.new) }
     {
         if self.is_slow(o) {
             self.remove_slow(o, i);

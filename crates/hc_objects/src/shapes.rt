@@ -1,7 +1,8 @@
 //! How an object is kept, and which objects share a map.
 ghost use Rattle.std.specs.Prelude.{◌≡◌, ◌≢◌, ◌<◌, ◌↔◌, IsTrue, None, IfOk, length};
+ghost use Rattle.hc_heap.specs.States.{OnlyLoads};
 ghost use Rattle.hc_objects.specs.Meaning.{cause_in};
-ghost use Rattle.hc_objects.specs.Modes.{AreAlike, mode_of};
+ghost use Rattle.hc_objects.specs.Modes.{AreAlike, HaveOneWord, mode_of};
 ghost use Rattle.hc_objects.specs.Came.{IsStill, world_of};
 
 use crate::objects::Objects;
@@ -14,6 +15,7 @@ impl<P: Pace> Objects<P> {
         requires there { o < length (world_of self.old) }
         ensures mode { IfOk result (λ mode. mode ≡ mode_of self.old.heap.view.trail self.old.kept o) }
         ensures still { IsStill self.old self.new }
+        ensures loads { OnlyLoads 2 self.old.heap.desk self.new.heap.desk }
     {
         if let Some(slow) = self.slow(o) {
             return Ok(Mode::Slow(slow.cause));
@@ -27,7 +29,9 @@ impl<P: Pace> Objects<P> {
         requires b { b < length (world_of self.old) }
         ensures itself { a ≡ b → IfOk result (λ same. IsTrue same ↔ (cause_in self.old.kept a ≡ None)) }
         ensures others { a ≢ b → IfOk result (λ same. IsTrue same ↔ AreAlike self.old.heap.view.trail self.old.kept a b) }
+        ensures words { IfOk result (λ same. IsTrue same ↔ HaveOneWord self.old.heap.view.trail a b) }
         ensures still { IsStill self.old self.new }
+        ensures loads { OnlyLoads 2 self.old.heap.desk self.new.heap.desk }
     {
         gates_are_open();
         self.stands();

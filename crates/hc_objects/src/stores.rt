@@ -15,7 +15,8 @@ use hc_layout::cap;
 // How many new slots an object with n properties needs for one more.
 pub(crate) fn slots_needed(n: u32, capacity: u32) -> u32
     requires few { n < MAX_FAST }
-    ensures { result ≡ slots_need n capacity }
+    ensures value { result ≡ slots_need n capacity }
+    ensures most { result ≤ MAX_FAST }
 {
     if n < capacity {
         return 0;

@@ -9,7 +9,7 @@ use hc_value::{Held, Memory, Prop};
 
 impl<P: Pace> Tables for Objects<P> {
     ghost use Rattle.hc_objects.specs.Came.{Came, world_of};
-    ghost use Rattle.hc_objects.specs.Laws.{came-refl, came-before, came-after};
+    ghost use Rattle.hc_objects.specs.Laws.{came-refl, came-before, came-after, came-world};
 
     ghost world = { world_of };
 
@@ -79,4 +79,6 @@ impl<P: Pace> Tables for Objects<P> {
     ghost nothing_before = { came-before P.went };
 
     ghost nothing_after = { came-after P.went };
+
+    ghost world_after = { came-world P.went };
 }

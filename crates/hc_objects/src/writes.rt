@@ -7,6 +7,7 @@ ghost use Rattle.hc_tree.specs.Needs.{HasSpace};
 ghost use Rattle.hc_table.specs.Attributes.{IsProper};
 ghost use Rattle.hc_table.specs.Changes.{Added, Wrote, kind_at};
 ghost use Rattle.hc_table.specs.World.{object, props_at, place_of};
+ghost use Rattle.hc_objects.specs.Rest.{Marks};
 ghost use Rattle.hc_objects.specs.Modes.{IsWithin, add_need};
 ghost use Rattle.hc_objects.specs.Meaning.{kept_of};
 ghost use Rattle.hc_table.specs.Ranges.{IsHeldInRange};
@@ -34,6 +35,7 @@ impl<P: Pace> Objects<P> {
         ensures null { self.new.of_null ≡ self.old.of_null }
         ensures used { self.new.heap.view.used ≡ self.old.heap.view.used }
         ensures protos { (q : ℕ) → (root_in self.new.heap.view.trail q).is_proto ≡ (root_in self.old.heap.view.trail q).is_proto }
+        ensures marks { Marks self.old.heap.view.trail self.new.heap.view.trail o }
     {
         maps_are_kept();
         details_rise();
@@ -62,6 +64,7 @@ impl<P: Pace> Objects<P> {
         ensures protos { (q : ℕ) → (root_in self.new.heap.view.trail q).is_proto ≡ (root_in self.old.heap.view.trail q).is_proto }
         ensures kept { self.new.kept ≡ self.old.kept }
         ensures null { self.new.of_null ≡ self.old.of_null }
+        ensures marks { IsTrue result → Marks self.old.heap.view.trail self.new.heap.view.trail o }
     {
         maps_are_kept();
         details_rise();

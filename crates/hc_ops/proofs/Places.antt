@@ -8,7 +8,6 @@ use Rattle.hc_value.specs.declared.prop.Prop.{Prop}
 use Rattle.hc_table.specs.World.{place_of, property_of, holding, held_at}
 use Rattle.hc_ops.specs.declared.walk.Found.{Found}
 use Rattle.hc_ops.specs.Found.{found_in, further}
-use Rattle.hc_ops.specs.Set.{with_value}
 
 pub same_some : {X : Type 0} (x y : X) → Some x ≡ Some y → x ≡ y
 same_some x y e = cc
@@ -36,13 +35,12 @@ module _ (name : ℕ) where
       let first : Option Found = Some (record { place = 0; property = p }) in
       ap (λ b. if b then first else option_map further (found_in ps name)) no.0 ∙ ap (option_map further) (found_in-absent ps no.1)
 
-  -- a place of a name is within the list, has the property of that name, and is where a value is written
+  -- a place of a name is within the list, and has the property of that name
   pub record IsPlace (ps : List Prop) (i : ℕ) : Type 0 where
     pub within : i < length ps
     pub property : property_of ps name ≡ slice_get ps i
     pub found : (p : Prop) → slice_get ps i ≡ Some p → found_in ps name ≡ Some (record { place = i; property = p })
     pub named : (p : Prop) → slice_get ps i ≡ Some p → p.name ≡ name
-    pub written : (value : Value) → with_value ps name value ≡ held_at ps i (Datum value)
 
   pub IsPlace-from_place_of : (ps : List Prop) (i : ℕ) → place_of ps name ≡ Some i → IsPlace ps i
   IsPlace-from_place_of [] i h = absurd (cc)
@@ -56,7 +54,6 @@ module _ (name : ℕ) where
             let here : Prop → Option Found = λ x. Some (record { place = 0; property = x }) in
             ap (λ b. if b then here p else option_map further (found_in ps name)) e ∙ ap here (same_some p q at);
         named = λ q at. ap (λ (x : Prop). x.name) (sym (same_some p q at)) ∙ (Decides-eqb p.name name).0 e;
-        written = λ value. ap (λ b. if b then holding p (Datum value) ∷ ps else p ∷ with_value ps name value) e;
       }
 
       later : eqb p.name name ≡ false → (j : ℕ) → IsPlace ps j → IsPlace (p ∷ ps) (suc j)
@@ -67,7 +64,6 @@ module _ (name : ℕ) where
             let here : Option Found = Some (record { place = 0; property = p }) in
             ap (λ b. if b then here else option_map further (found_in ps name)) e ∙ ap (option_map further) (place.found q at);
         named = place.named;
-        written = λ value. ap (λ b. if b then holding p (Datum value) ∷ ps else p ∷ with_value ps name value) e ∙ ap (λ rest. p ∷ rest) (place.written value);
       }
 
       by : (b : Bool) → eqb p.name name ≡ b → (rest : Option ℕ) → (if b then Some 0 else option_map suc rest) ≡ Some i → ((j : ℕ) → rest ≡ Some j → IsPlace ps j) → IsPlace (p ∷ ps) i

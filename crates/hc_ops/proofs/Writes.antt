@@ -1,33 +1,10 @@
 -- Lemmas on writing a property.
 use Rattle.std.proofs.Common.{◌≡◌, ℕ, zero, suc, ◌<◌, true, false, List, [], ◌∷◌, Option, Some, None, length, refl, sym, ap, ◌∙◌, arith}
 use Rattle.std.specs.Prelude.{if◌then◌else◌, slice_get}
-use Rattle.std.proofs.lemmas.Bool.Decides.{Decides-eqb}
-use Rattle.hc_value.specs.Attrs.{is_read_only}
-use Rattle.hc_value.specs.declared.attrs.Attrs.{Attrs}
-use Rattle.hc_value.specs.declared.value.Value.{Value}
-use Rattle.hc_value.specs.declared.prop.Held.{Held}
-use Rattle.hc_value.specs.declared.prop.Held.TheVariants.{Datum, Pair}
 use Rattle.hc_value.specs.declared.prop.Prop.{Prop}
-use Rattle.hc_value.specs.declared.reply.Reply.TheVariants.{Flag}
-use Rattle.hc_table.specs.Attributes.{is_datum}
 use Rattle.hc_table.specs.World.{World, object, props_at, place_of, property_of, with_props, with_written}
 use Rattle.hc_ops.specs.Nearest.{Nearest, nearest, nearest_among, own_or_further}
-use Rattle.hc_ops.specs.Set.{Outcome, nearest_outcome, writable_outcome, create_outcome, with_value}
 use Rattle.hc_ops.proofs.Places.{same_some, IsPlace-from_place_of}
-
--- an own writable data property is written in its place
-pub own_written : (w : World) (o name : ℕ) (value : Value) (holder : ℕ) (attrs : Attrs) (held : Held) (place : ℕ) → is_datum held ≡ true → is_read_only attrs ≡ false → holder ≡ o → place_of (props_at w o) name ≡ Some place → (nearest_outcome w o name value holder attrs held).world ≡ with_written w o place (Datum value)
-own_written w o name value holder attrs (Datum old) place datum writable same at =
-    ap (λ b. (if b then refused else writable_outcome w o name value holder).world) writable
-    ∙ ap (λ b. (if b then written else create_outcome w o name value).world) ((Decides-eqb holder o).1 same)
-    ∙ ap (with_props w o) ((IsPlace-from_place_of name (props_at w o) place at).written value)
-  where
-    refused : Outcome
-    refused = record { reply = Flag false; world = w }
-
-    written : Outcome
-    written = record { reply = Flag true; world = with_props w o (with_value (props_at w o) name value) }
-own_written w o name value holder attrs (Pair getter setter) place datum writable same at = absurd (cc)
 
 get-none : (ps : List Prop) (i : ℕ) → slice_get ps i ≡ None → i < length ps → ⊥
 get-none [] i h l = omega arith

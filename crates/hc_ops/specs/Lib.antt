@@ -8,5 +8,4 @@ pub mod Integrity
 pub mod Keys
 pub mod Nearest
 pub mod Set
-pub mod SetDid
 pub mod Spots

@@ -12,6 +12,3 @@ pub use descriptor::define;
 pub use read::{get, has, keys, own};
 pub use walk::{Found, Spot, comes_to, nearest, own_property};
 pub use write::set;
-
-#[cfg(test)]
-mod tests;

@@ -1,11 +1,10 @@
 ghost use Rattle.std.specs.Prelude.{◌≡◌, ◌<◌, ℕ, true, None, Some, length, slice_get, IfOk, OnOk, OnErr};
 ghost use Rattle.hc_table.specs.Attributes.{is_datum};
-ghost use Rattle.hc_table.specs.Changes.{Moved};
+ghost use Rattle.hc_table.specs.Changes.{Moved, after};
 ghost use Rattle.hc_table.specs.Numbers.{IsNameNumber};
 ghost use Rattle.hc_table.specs.World.{props_at, place_of};
 ghost use Rattle.hc_value.specs.Word.{IsInRange};
-ghost use Rattle.hc_ops.specs.Set.{set_outcome, create_outcome, nearest_outcome};
-ghost use Rattle.hc_ops.specs.SetDid.{set_did, create_did, nearest_did};
+ghost use Rattle.hc_ops.specs.Set.{set_act, create_act, nearest_act};
 
 use crate::walk::{Spot, nearest};
 use bitflags::Flags;
@@ -17,9 +16,9 @@ pub fn set<T: Tables>(t: &mut T, o: u32, name: u32, value: Value) -> Result<Repl
     requires object { o < length (T.world t.old) }
     requires name { IsNameNumber name }
     requires range { IsInRange value }
-    ensures reply { IfOk result (λ reply. reply ≡ (set_outcome (T.world t.old) o name value).reply) }
-    ensures world { OnOk result (T.world t.new ≡ (set_outcome (T.world t.old) o name value).world) }
-    ensures did { OnOk result (T.came t.old (set_did (T.world t.old) o name value) t.new) }
+    ensures reply { IfOk result (λ reply. reply ≡ (set_act (T.world t.old) o name value).reply) }
+    ensures world { OnOk result (T.world t.new ≡ after (set_act (T.world t.old) o name value).did (T.world t.old)) }
+    ensures did { OnOk result (T.came t.old (set_act (T.world t.old) o name value).did t.new) }
     ensures err { OnErr result (T.world t.new ≡ T.world t.old) }
     ensures moved { OnErr result (T.came t.old Moved t.new) }
     ensures same_limit { T.limit t.new ≡ T.limit t.old }
@@ -40,9 +39,9 @@ fn create<T: Tables>(t: &mut T, o: u32, name: u32, value: Value) -> Result<Reply
     requires name { IsNameNumber name }
     requires range { IsInRange value }
     requires absent { place_of (props_at (T.world t.old) o) name ≡ None }
-    ensures reply { IfOk result (λ reply. reply ≡ (create_outcome (T.world t.old) o name value).reply) }
-    ensures world { OnOk result (T.world t.new ≡ (create_outcome (T.world t.old) o name value).world) }
-    ensures did { OnOk result (T.came t.old (create_did (T.world t.old) o name value) t.new) }
+    ensures reply { IfOk result (λ reply. reply ≡ (create_act (T.world t.old) o name value).reply) }
+    ensures world { OnOk result (T.world t.new ≡ after (create_act (T.world t.old) o name value).did (T.world t.old)) }
+    ensures did { OnOk result (T.came t.old (create_act (T.world t.old) o name value).did t.new) }
     ensures err { OnErr result (T.world t.new ≡ T.world t.old) }
     ensures moved { OnErr result (T.came t.old Moved t.new) }
     ensures same_limit { T.limit t.new ≡ T.limit t.old }
@@ -62,7 +61,6 @@ fn create<T: Tables>(t: &mut T, o: u32, name: u32, value: Value) -> Result<Reply
 }
 
 // Writes where the nearest property holds a value: an own one gets the new value, and one of a prototype is hidden.
-#[tactic(auto, using(crate::proofs::Writes::own_written))]
 fn set_datum<T: Tables>(
     t: &mut T,
     o: u32,
@@ -79,11 +77,11 @@ fn set_datum<T: Tables>(
     requires datum { is_datum spot.now.property.held ≡ true }
     requires others { (spot.now.holder ≡ o → ⊥) → place_of (props_at (T.world t.old) o) name ≡ None }
     ensures reply { IfOk result (λ reply. reply
-        ≡ (nearest_outcome (T.world t.old) o name value spot.now.holder spot.now.property.attrs spot.now.property.held).reply) }
+        ≡ (nearest_act (T.world t.old) o name value spot.now.holder spot.now.property.attrs spot.now.property.held).reply) }
     ensures world { OnOk result (T.world t.new
-        ≡ (nearest_outcome (T.world t.old) o name value spot.now.holder spot.now.property.attrs spot.now.property.held).world) }
+        ≡ after (nearest_act (T.world t.old) o name value spot.now.holder spot.now.property.attrs spot.now.property.held).did (T.world t.old)) }
     ensures did { OnOk result (T.came t.old
-        (nearest_did (T.world t.old) o name value spot.now.holder spot.now.property.attrs spot.now.property.held) t.new) }
+        (nearest_act (T.world t.old) o name value spot.now.holder spot.now.property.attrs spot.now.property.held).did t.new) }
     ensures err { OnErr result (T.world t.new ≡ T.world t.old) }
     ensures moved { OnErr result (T.came t.old Moved t.new) }
     ensures same_limit { T.limit t.new ≡ T.limit t.old }

@@ -1,10 +1,10 @@
 -- A command that a call of the reader takes has its numbers among the names, and is built.
 use Rattle.std.proofs.Common.{◌≡◌, ℕ, List, length, true, Option, Some, None, Result, Ok, Err, IfSome, IfOk}
-use Rattle.hc_script.specs.Verbs.{is_built, IsBuilt}
-use Rattle.hc_script.specs.Grammar.{Form, verb_of, IsForm, command_of, names_after}
-use Rattle.hc_script.specs.Numbers.{IsCommandBelow}
+use Rattle.hc_commands.specs.Verbs.{is_built, IsBuilt}
+use Rattle.hc_commands.specs.Grammar.{Form, verb_of, IsForm, command_of, names_after}
+use Rattle.hc_commands.specs.Numbers.{IsCommandBelow}
 use Rattle.hc_script.specs.Reading.{Position, Serves}
-use Rattle.hc_script.specs.declared.command.Command.{Command}
+use Rattle.hc_commands.specs.declared.command.Command.{Command}
 use Rattle.hc_script.specs.declared.fault.ScriptFault.{ScriptFault}
 
 pub served_below : ((names : List (List ℕ)) (form : Form) → IsForm form → IsCommandBelow (length (names_after names form)) (command_of names form)) → (at after : Position) (before now : Option (List ℕ)) (found : Result (Option Command) ScriptFault) → Serves at before found after now → IfOk found (λ command. IfSome command (λ asked. IsCommandBelow (length after.names) asked))

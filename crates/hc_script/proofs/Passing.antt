@@ -1,9 +1,9 @@
 -- Lines taken one after another.
 use Rattle.std.proofs.Common.{ℕ, List, [], ◌∷◌, ◌++◌, refl, sym, ap, ◌∙◌, append_assoc, Option, Some, None, Ok, Err}
-use Rattle.hc_script.specs.Lines.{lines_of, TakesLines}
+use Rattle.hc_lines.specs.Lines.{lines_of, TakesLines}
 use Rattle.hc_script.specs.Reading.{Position, IsPassed, MeetsRefused, ArePassed, Serves}
 use Rattle.hc_script.specs.Turn.{TakesTurn, FailsTurn}
-use Rattle.hc_script.specs.declared.command.Command.{Command}
+use Rattle.hc_commands.specs.declared.command.Command.{Command}
 use Rattle.hc_script.specs.declared.fault.What.{What}
 use Rattle.hc_script.specs.declared.fault.ScriptFault.{ScriptFault}
 use Rattle.hc_script.specs.declared.fault.ScriptFault.TheVariants.{Bad, Read, Memory}

@@ -5,12 +5,12 @@ use Rattle.hc_value.specs.declared.memory.Memory.{Memory as OutOfMemory}
 use Rattle.hc_script.specs.Line.{Means, IsRefusedBehind}
 use Rattle.hc_script.specs.Reading.{Position, IsWithin, IsPassed, IsAsked, IsRefused}
 use Rattle.hc_script.specs.Turn.{IsLineFault, turn_for}
-use Rattle.hc_script.specs.declared.command.Command.{Command}
+use Rattle.hc_commands.specs.declared.command.Command.{Command}
 use Rattle.hc_script.specs.declared.fault.ScriptFault.{ScriptFault}
 use Rattle.hc_script.specs.declared.fault.ScriptFault.TheVariants.{Bad, Memory}
 use Rattle.hc_script.specs.declared.fault.What.{What}
 use Rattle.hc_script.specs.declared.fault.What.TheVariants.{Form, Long, Size, Names, Unbuilt}
-use Rattle.hc_script.specs.declared.limits.TheConstants.{MAX_BYTES}
+use Rattle.hc_lines.specs.declared.limits.TheConstants.{MAX_BYTES}
 use Rattle.hc_script.specs.declared.line.Meaning.{Meaning}
 use Rattle.hc_script.specs.declared.line.Meaning.TheVariants.{Nothing, Asked as AskedFor, Refused}
 use Rattle.hc_script.specs.declared.reader.Turn.{Turn}

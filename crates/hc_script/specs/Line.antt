@@ -1,50 +1,30 @@
 -- What a line means by itself.
-use Rattle.std.specs.Prelude.{◌≡◌, ◌⊎◌, ℕ, ◌-◌, ◌<◌, ◌≤◌, Bool, List, true, false, ◌&&◌, length, take, slice_index, nat_le, ◌==◌, if◌then◌else◌}
+use Rattle.std.specs.Prelude.{◌≡◌, ◌⊎◌, ℕ, ◌<◌, ◌≤◌, Bool, List, true, false, ◌&&◌, length, nat_le}
 use Rattle.std.specs.List.{list_all}
 use Rattle.hc_names.specs.declared.TheConstants.{MAX_NAMES}
-use Rattle.hc_script.specs.Words.{words_of, is_skipped}
-use Rattle.hc_script.specs.Verbs.{is_built}
-use Rattle.hc_script.specs.Grammar.{Form, verb_of, IsForm, IsSpelled, names_after, HaveNoForm}
-use Rattle.hc_script.specs.Asks.{AsksFor, AreUnbuilt}
-use Rattle.hc_script.specs.declared.command.Command.{Command}
+use Rattle.hc_lines.specs.Lines.{content, IsLong, IsShort}
+use Rattle.hc_commands.specs.Words.{is_plain_byte, words_of, is_skipped}
+use Rattle.hc_commands.specs.Verbs.{is_built}
+use Rattle.hc_commands.specs.Grammar.{Form, verb_of, IsForm, IsSpelled, names_after, HaveNoForm}
+use Rattle.hc_commands.specs.Asks.{AsksFor, AreUnbuilt}
+use Rattle.hc_commands.specs.declared.command.Command.{Command}
 use Rattle.hc_script.specs.declared.fault.What.{What}
 use Rattle.hc_script.specs.declared.fault.What.TheVariants.{Form as FormWord, Long, Size, Names, Unbuilt}
-use Rattle.hc_script.specs.declared.limits.TheConstants.{MAX_LINE}
 use Rattle.hc_script.specs.declared.line.Meaning.{Meaning}
 use Rattle.hc_script.specs.declared.line.Meaning.TheVariants.{Nothing, Asked, Refused}
 
--- a line without the newline that ends it
-abbrev pub content : List ℕ → List ℕ
-content line = if slice_index line (length line - 1) == 10 then take (length line - 1) line else line
-
--- the line has more bytes than a line may have
-abbrev pub IsLong : List ℕ → Type 0
-IsLong line = MAX_LINE < length (content line)
-
-abbrev pub IsShort : List ℕ → Type 0
-IsShort line = length (content line) ≤ MAX_LINE
-
--- a byte that a command may have
-abbrev pub is_plain_byte : ℕ → Bool
-is_plain_byte byte = nat_le 32 byte && nat_le byte 126
-
+-- each byte but the newline is one that a command may have
 abbrev pub is_plain : List ℕ → Bool
 is_plain line = list_all is_plain_byte (content line)
+
+-- a byte of the line is none that a command may have, or its words have no form
+abbrev pub HasNoForm : List ℕ → Type 0
+HasNoForm line = (is_plain line ≡ false) ⊎ ((is_plain line ≡ true) × HaveNoForm (words_of line))
 
 -- a line of few enough bytes that asks for something
 pub record IsQuestion (line : List ℕ) : Type 0 where
   pub short : IsShort line
   pub unskipped : is_skipped line ≡ false
-
--- the line is refused wherever it stands: as too long; for a byte, or for words that have no form; for a command that
--- isn't built
-abbrev pub IsRefusedAnywhere : List ℕ → What → Type 0
-IsRefusedAnywhere line Size = ⊥
-IsRefusedAnywhere line Long = IsLong line
-IsRefusedAnywhere line FormWord =
-    IsQuestion line × ((is_plain line ≡ false) ⊎ ((is_plain line ≡ true) × HaveNoForm (words_of line)))
-IsRefusedAnywhere line Unbuilt = IsQuestion line × (is_plain line ≡ true) × AreUnbuilt (words_of line)
-IsRefusedAnywhere line Names = ⊥
 
 -- the line asks for a command, and there would be too many names after it
 pub record AsksForTooMany (names : List (List ℕ)) (line : List ℕ) : Type 0 where
@@ -56,12 +36,14 @@ pub record AsksForTooMany (names : List (List ℕ)) (line : List ℕ) : Type 0 w
   pub built : is_built (verb_of form) ≡ true
   pub too_many : MAX_NAMES < length (names_after names form)
 
--- the line is refused behind these names
+-- the line is refused behind these names, by itself: as too long; for a byte, or for words that have no form; for a
+-- command that isn't built; for too many names
 abbrev pub IsRefusedBehind : List (List ℕ) → List ℕ → What → Type 0
 IsRefusedBehind names line Size = ⊥
-IsRefusedBehind names line Long = IsRefusedAnywhere line Long
-IsRefusedBehind names line FormWord = IsRefusedAnywhere line FormWord
-IsRefusedBehind names line Unbuilt = IsRefusedAnywhere line Unbuilt
+IsRefusedBehind names line Long = IsLong line
+IsRefusedBehind names line FormWord =
+    IsQuestion line × HasNoForm line
+IsRefusedBehind names line Unbuilt = IsQuestion line × (is_plain line ≡ true) × AreUnbuilt (words_of line)
 IsRefusedBehind names line Names = AsksForTooMany names line
 
 -- the line asks for a command, behind these names

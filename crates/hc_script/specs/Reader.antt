@@ -1,7 +1,7 @@
 -- What contracts see of a reader.
 use Rattle.std.specs.Prelude.{ℕ, List, [], Option, Some, None, Result, Ok, Err}
 use Rattle.hc_script.specs.Reading.{Position, the_start}
-use Rattle.hc_script.specs.declared.command.Command.{Command}
+use Rattle.hc_commands.specs.declared.command.Command.{Command}
 use Rattle.hc_script.specs.declared.fault.ScriptFault.{ScriptFault}
 use Rattle.hc_script.specs.declared.reader.Phase.{Phase}
 use Rattle.hc_script.specs.declared.reader.Phase.TheVariants.{Going, Ended, Failed}

@@ -3,7 +3,7 @@ use Rattle.std.specs.Prelude.{◌≡◌, ◌+◌, ◌≤◌, length, vec_len}
 use Rattle.hc_names.specs.declared.TheConstants.{MAX_NAMES}
 use Rattle.hc_script.specs.Reader.{Reader}
 use Rattle.hc_script.specs.declared.reader.ScriptReader.TheInside.{Inside}
-use Rattle.hc_script.specs.declared.limits.TheConstants.{MAX_BYTES, MAX_LINE, PIECE}
+use Rattle.hc_lines.specs.declared.limits.TheConstants.{MAX_BYTES, MAX_LINE, PIECE}
 
 abbrev pub reader_of : Inside → Reader
 reader_of fields = record {

@@ -1,15 +1,15 @@
 -- What a line means where it stands, and what a call of the reader takes.
 use Rattle.std.specs.Prelude.{◌≡◌, ℕ, ◌+◌, ◌<◌, ◌≤◌, List, [], ◌∷◌, ◌++◌, length, Option, Some, None, Result, Ok, Err, true}
-use Rattle.hc_script.specs.Lines.{lines_of, ahead, IsUnbroken, TakesLines}
-use Rattle.hc_script.specs.Outside.{IsAtEnd}
-use Rattle.hc_script.specs.Words.{is_skipped}
-use Rattle.hc_script.specs.Line.{IsShort, IsUnderstood, IsRefusedBehind}
-use Rattle.hc_script.specs.declared.command.Command.{Command}
+use Rattle.hc_lines.specs.Lines.{lines_of, ahead, IsUnbroken, TakesLines, IsShort}
+use Rattle.hc_lines.specs.Outside.{IsAtEnd}
+use Rattle.hc_commands.specs.Words.{is_skipped}
+use Rattle.hc_script.specs.Line.{IsUnderstood, IsRefusedBehind}
+use Rattle.hc_commands.specs.declared.command.Command.{Command}
 use Rattle.hc_script.specs.declared.fault.ScriptFault.{ScriptFault}
 use Rattle.hc_script.specs.declared.fault.ScriptFault.TheVariants.{Bad, Read, Memory}
 use Rattle.hc_script.specs.declared.fault.What.{What}
 use Rattle.hc_script.specs.declared.fault.What.TheVariants.{Form, Long, Size, Names, Unbuilt}
-use Rattle.hc_script.specs.declared.limits.TheConstants.{MAX_BYTES}
+use Rattle.hc_lines.specs.declared.limits.TheConstants.{MAX_BYTES}
 
 -- a place between two lines: the names so far, how many lines came before, and how many bytes they hold
 pub record Position : Type 0 where

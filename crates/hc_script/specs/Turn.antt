@@ -1,9 +1,9 @@
 -- What a reader does with one line.
 use Rattle.std.specs.Prelude.{◌≡◌, ℕ, ◌+◌, ◌<◌, List, [], ◌∷◌, length, Option, Result, Ok, Err}
 use Rattle.hc_value.specs.declared.memory.Memory.{Memory as OutOfMemory}
-use Rattle.hc_script.specs.Lines.{TakesLines}
-use Rattle.hc_script.specs.Outside.{IsAtEnd}
-use Rattle.hc_script.specs.Fetch.{LosesPart}
+use Rattle.hc_lines.specs.Lines.{TakesLines}
+use Rattle.hc_lines.specs.Outside.{IsAtEnd}
+use Rattle.hc_lines.specs.Fetch.{LosesPart}
 use Rattle.hc_script.specs.Reading.{Position, IsPassed, IsAsked, IsRefused, MeetsRefused}
 use Rattle.hc_script.specs.declared.line.Meaning.{Meaning}
 use Rattle.hc_script.specs.declared.line.Meaning.TheVariants.{Nothing, Asked as AskedFor, Refused}

@@ -3,10 +3,6 @@ ghost use Rattle.hc_script.specs.Status.{number_of_status};
 
 use thiserror::Error;
 
-/// A read or a write failed.
-#[derive(Clone, Copy, Debug, PartialEq, Eq)]
-pub struct Failed;
-
 /// Why a line is refused.
 #[derive(Clone, Copy, Debug, PartialEq, Eq)]
 pub enum What {

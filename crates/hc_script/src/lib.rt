@@ -1,37 +1,14 @@
-//! The script: where its bytes come from and where the output goes, its lines, their words, and the command
-//! that each line asks for.
+//! The script: what each of its lines means where it stands, and the commands that it asks for, one after another.
 #![tactic(auto)]
 
-mod buffer;
-mod bytes;
-mod command;
-mod definition;
 mod fault;
-mod fetch;
-mod grammar;
 pub mod laws;
-mod limits;
 mod line;
-mod memory;
-mod name;
-mod numbering;
-mod numeral;
-mod outside;
-mod parts;
 mod reader;
 mod script;
-mod token;
-mod verb;
-mod words;
-mod written;
 
-pub use bytes::{Bytes, Calls, Cuts};
-pub use command::{Command, Op, Reads};
-pub use fault::{Failed, ScriptFault, Status, What};
-pub use memory::{MemSink, MemSource};
-pub use outside::{Sink, Source};
+pub use fault::{ScriptFault, Status, What};
+pub use hc_commands::{Command, Op, Reads};
+pub use hc_lines::{Bytes, Calls, Cuts, Failed, MemSink, MemSource, Sink, Source};
 pub use reader::{Phase, ScriptReader};
 pub use script::Script;
-
-#[cfg(test)]
-mod tests;

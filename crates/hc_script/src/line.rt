@@ -1,18 +1,20 @@
-ghost use Rattle.std.specs.Prelude.{◌≡◌, ◌≤◌, length, IfOk};
-ghost use Rattle.std.specs.List.{list_all};
+ghost use Rattle.std.specs.Prelude.{◌≡◌, ◌≤◌, true, length, IfOk, IfSome, IfNone};
 ghost use Rattle.hc_names.specs.declared.TheConstants.{MAX_NAMES};
-ghost use Rattle.hc_script.specs.Line.{content, is_plain_byte, is_plain, IsQuestion, Means};
+ghost use Rattle.hc_lines.specs.Lines.{content, IsLine};
+ghost use Rattle.hc_commands.specs.Grammar.{IsForm, IsSpelled};
+ghost use Rattle.hc_commands.specs.Request.{form_of};
+ghost use Rattle.hc_commands.specs.Words.{words_of};
+ghost use Rattle.hc_script.specs.Line.{is_plain, HasNoForm, IsQuestion, Means};
 
-use crate::grammar::request_of;
-use crate::limits::MAX_LINE;
-use crate::numbering::command_for;
-use crate::words::is_passed_over;
-use crate::{Command, What};
+use crate::What;
+use hc_commands::laws::commands_are_plain;
+use hc_commands::{Command, Request, command_for, is_passed_over, request_of};
+use hc_lines::MAX_LINE;
 use hc_names::{NameFault, Names};
 use hc_value::Memory;
 
 /// What a line asks for.
-#[derive(Clone, Copy, Debug, PartialEq, Eq)]
+#[derive(Clone, Copy)]
 pub enum Meaning {
     Nothing,
     Asked(Command),
@@ -21,7 +23,8 @@ pub enum Meaning {
 
 /// What a line asks for, with its names interned.
 pub fn meaning_of(names: &mut Names, line: &[u8]) -> Result<Meaning, Memory>
-    requires { length names.old ≤ MAX_NAMES }
+    requires room { length names.old ≤ MAX_NAMES }
+    requires line { IsLine line.now }
     ensures meaning { IfOk result (λ meaning. Means names.old line.now meaning names.new) }
     ensures room { length names.new ≤ MAX_NAMES }
 {
@@ -37,14 +40,12 @@ pub fn meaning_of(names: &mut Names, line: &[u8]) -> Result<Meaning, Memory>
 // What a line asks for that asks for something.
 fn meaning_of_question(names: &mut Names, line: &[u8]) -> Result<Meaning, Memory>
     requires room { length names.old ≤ MAX_NAMES }
+    requires line { IsLine line.now }
     requires question { IsQuestion line.now }
     ensures meaning { IfOk result (λ meaning. Means names.old line.now meaning names.new) }
     ensures room { length names.new ≤ MAX_NAMES }
 {
-    if !has_plain_bytes(line) {
-        return Ok(Meaning::Refused(What::Form));
-    }
-    let Some(request) = request_of(line) else {
+    let Some(request) = plain_request_of(line) else {
         return Ok(Meaning::Refused(What::Form));
     };
     if !request.verb().is_built() {
@@ -69,21 +70,14 @@ fn without_newline(line: &[u8]) -> &[u8]
     }
 }
 
-// Whether each byte but the newline is one that a command may have.
-fn has_plain_bytes(line: &[u8]) -> bool
-    ensures { result ≡ is_plain line.now }
+// What the words of a line ask for. Its bytes are such as a command may have then, since those of its words are.
+fn plain_request_of(line: &[u8]) -> Option<Request<'_>>
+    requires { IsLine line.now }
+    ensures form { IfSome result (λ request. IsForm (form_of request)) }
+    ensures words { IfSome result (λ request. IsSpelled (form_of request) (words_of line.now)) }
+    ensures plain { IfSome result (λ request. is_plain line.now ≡ true) }
+    ensures none { IfNone result (HasNoForm line.now) }
 {
-    are_plain(without_newline(line))
-}
-
-fn are_plain(bytes: &[u8]) -> bool
-    ensures { result ≡ list_all is_plain_byte bytes.now }
-{
-    bytes.iter().all(|byte| is_plain_one(*byte))
-}
-
-fn is_plain_one(byte: u8) -> bool
-    ensures { result ≡ is_plain_byte byte }
-{
-    matches!(byte, b' '..=b'~')
+    commands_are_plain();
+    request_of(line)
 }

@@ -1,27 +1,25 @@
 ghost use Rattle.std.specs.Prelude.{◌≡◌, ◌+◌, ◌<◌, ◌≤◌, None, Some, IfOk, IfSome, IfErr, IsErrOf, OnOk, [], length, take, drop};
 ghost use Rattle.hc_names.specs.declared.TheConstants.{MAX_NAMES};
-ghost use Rattle.hc_script.specs.Outside.{Rose};
-ghost use Rattle.hc_script.specs.declared.limits.TheConstants.{MAX_BYTES, MAX_LINE, PIECE};
-ghost use Rattle.hc_script.specs.Lines.{ahead};
-ghost use Rattle.hc_script.specs.Numbers.{IsCommandBelow};
-ghost use Rattle.hc_script.specs.Verbs.{IsBuilt};
+ghost use Rattle.hc_lines.specs.Outside.{Rose};
+ghost use Rattle.hc_lines.specs.declared.limits.TheConstants.{MAX_BYTES, MAX_LINE, PIECE};
+ghost use Rattle.hc_lines.specs.Lines.{ahead, IsLine};
+ghost use Rattle.hc_commands.specs.Numbers.{IsCommandBelow};
+ghost use Rattle.hc_commands.specs.Verbs.{IsBuilt};
 ghost use Rattle.hc_script.specs.Reading.{IsPassed, IsAsked, Serves};
 ghost use Rattle.hc_script.specs.Reader.{Reader, the_new_reader, phase_after};
 ghost use Rattle.hc_script.specs.Turn.{TakesTurn, FailsTurn, IsLineFault, turn_for};
 
-use crate::buffer::LineBuffer;
-use crate::fetch::{Fetched, Lack, fetch_line};
-use crate::laws::commands_are_named;
-use crate::limits::PIECE;
 use crate::line::{Meaning, meaning_of};
 use crate::{Command, ScriptFault, Source, What};
+use hc_commands::laws::commands_are_named;
+use hc_lines::{Fetched, Lack, LineBuffer, PIECE, fetch_line};
 use hc_names::Names;
 use hc_value::Memory;
 use std::alloc::Global;
 use std::marker::Model;
 
 /// Whether a reader goes on.
-#[derive(Clone, Copy, Debug, PartialEq, Eq)]
+#[derive(Clone, Copy)]
 pub enum Phase {
     Going,
     Ended,
@@ -29,7 +27,7 @@ pub enum Phase {
 }
 
 /// What one line is to the reader.
-#[derive(Clone, Copy, Debug, PartialEq, Eq)]
+#[derive(Clone, Copy)]
 enum Turn {
     End,
     Passed,
@@ -91,9 +89,10 @@ impl ScriptReader {
         ensures read { self.old.phase ≡ Phase.Going → IsErrOf result ScriptFault.Read
             → Rose (S.faults source.old) (S.faults source.new) }
         ensures dropped { self.old.phase ≡ Phase.Going → IsErrOf result ScriptFault.Read → self.new.pending ≡ [] }
-        ensures ended { self.old.phase ≡ Phase.Ended → (result ≡ Ok None) × (self.new ≡ self.old) }
+        ensures ended { self.old.phase ≡ Phase.Ended
+            → (result ≡ Ok None) × (self.new ≡ self.old) × (source.new ≡ source.old) }
         ensures failed { (fault : ScriptFault) → self.old.phase ≡ Phase.Failed fault
-            → (result ≡ Err fault) × (self.new ≡ self.old) }
+            → (result ≡ Err fault) × (self.new ≡ self.old) × (source.new ≡ source.old) }
         ensures numbers { IfOk result (λ found. IfSome found (λ command. IsCommandBelow (length self.new.at.names) command)) }
         ensures within { length self.new.at.names ≤ MAX_NAMES }
         ensures built { IfOk result (λ found. IfSome found (λ command. IsBuilt command)) }
@@ -162,6 +161,7 @@ impl ScriptReader {
     fn take_line(&mut self, n: usize) -> Result<Turn, ScriptFault>
         requires some { 0 < n }
         requires there { n ≤ length self.old.pending }
+        requires line { IsLine (take n self.old.pending) }
         requires within { self.old.at.bytes + n ≤ MAX_BYTES }
         ensures passed { result ≡ Ok Turn.Passed → IsPassed self.old.at (take n self.old.pending) self.new.at }
         ensures asked { (command : Command) → result ≡ Ok (Turn.Asked command)

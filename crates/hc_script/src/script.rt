@@ -1,10 +1,10 @@
 ghost use Rattle.std.specs.Prelude.{◌≡◌, ◌+◌, ◌≤◌, length, IfOk, IfSome, IsErrOf, None, Ok, Err};
 ghost use Rattle.hc_names.specs.declared.TheConstants.{MAX_NAMES};
-ghost use Rattle.hc_script.specs.Outside.{Rose};
-ghost use Rattle.hc_script.specs.Lines.{ahead};
-ghost use Rattle.hc_script.specs.Numbers.{IsCommandBelow};
-ghost use Rattle.hc_script.specs.Verbs.{IsBuilt};
-ghost use Rattle.hc_script.specs.declared.limits.TheConstants.{MAX_LINE, PIECE};
+ghost use Rattle.hc_lines.specs.Outside.{Rose};
+ghost use Rattle.hc_lines.specs.Lines.{ahead};
+ghost use Rattle.hc_commands.specs.Numbers.{IsCommandBelow};
+ghost use Rattle.hc_commands.specs.Verbs.{IsBuilt};
+ghost use Rattle.hc_lines.specs.declared.limits.TheConstants.{MAX_LINE, PIECE};
 ghost use Rattle.hc_script.specs.Reading.{Serves};
 ghost use Rattle.hc_script.specs.Reader.{the_new_reader, phase_after};
 
@@ -47,9 +47,9 @@ impl<S: Source + Drop> Script<S> {
         ensures phase { self.old.reader.phase ≡ Phase.Going → self.new.reader.phase ≡ phase_after result }
         ensures read { self.old.reader.phase ≡ Phase.Going → IsErrOf result ScriptFault.Read
             → Rose (S.faults self.old.source) (S.faults self.new.source) }
-        ensures ended { self.old.reader.phase ≡ Phase.Ended → (result ≡ Ok None) × (self.new.reader ≡ self.old.reader) }
+        ensures ended { self.old.reader.phase ≡ Phase.Ended → (result ≡ Ok None) × (self.new ≡ self.old) }
         ensures failed { (fault : ScriptFault) → self.old.reader.phase ≡ Phase.Failed fault
-            → (result ≡ Err fault) × (self.new.reader ≡ self.old.reader) }
+            → (result ≡ Err fault) × (self.new ≡ self.old) }
         ensures numbers { IfOk result (λ found. IfSome found (λ command. IsCommandBelow (length self.new.reader.at.names) command)) }
         ensures within { length self.new.reader.at.names ≤ MAX_NAMES }
         ensures built { IfOk result (λ found. IfSome found (λ command. IsBuilt command)) }

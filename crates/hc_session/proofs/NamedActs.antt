@@ -15,15 +15,17 @@ use Rattle.hc_ops.specs.Delete.{delete_found, delete_act}
 use Rattle.hc_ops.specs.Found.{further, found_in}
 use Rattle.hc_ops.specs.Integrity.{same_proto, set_proto_act, lock_act}
 use Rattle.hc_ops.specs.declared.walk.Found.{Found}
-use Rattle.hc_script.specs.Numbers.{IsValueBelow, IsGivenBelow}
-use Rattle.hc_session.specs.Named.{IsNamedHeld, IsNamedProp, AreNamedProps, IsNamedWorld, IsShown}
+use Rattle.hc_commands.specs.Numbers.{IsGivenBelow}
+use Rattle.hc_report.specs.Named.{IsNamedHeld, IsNamedReply, IsNamedValue}
+use Rattle.hc_session.specs.Named.{IsNamedProp, AreNamedProps, IsNamedWorld}
+use Rattle.hc_session.proofs.NamedValues.{value_named}
 use Rattle.hc_session.proofs.NamedChanges.{IsNamedDid}
 
 -- the reply can be shown, and what is put in has such a name, and such a text
 abbrev pub IsNamedAct : ℕ → Act → Type 0
-IsNamedAct count act = IsShown count act.reply × IsNamedDid count act.did
+IsNamedAct count act = IsNamedReply count act.reply × IsNamedDid count act.did
 
-either_act : (count : ℕ) (b : Bool) (x y : Act) → IsNamedAct count x → IsNamedAct count y → IsNamedAct count (if b then x else y)
+pub either_act : (count : ℕ) (b : Bool) (x y : Act) → IsNamedAct count x → IsNamedAct count y → IsNamedAct count (if b then x else y)
 either_act count true x y first second = first
 either_act count false x y first second = second
 
@@ -45,9 +47,9 @@ found_named count (p ∷ ps) name named =
     either_found count (p.name == name) _ _ named.0 (further_named count (found_in ps name) (found_named count ps name named.1))
 
 -- what a property holds after a definition
-given_named : (count : ℕ) (asked : Option Value) (value : Value) → IsGivenBelow count asked → IsValueBelow count value → IsValueBelow count (given asked value)
+given_named : (count : ℕ) (asked : Option Value) (value : Value) → IsGivenBelow count asked → IsNamedValue count value → IsNamedValue count (given asked value)
 given_named count None value of_asked of_value = of_value
-given_named count (Some new) value of_asked of_value = of_asked
+given_named count (Some new) value of_asked of_value = value_named count new of_asked
 
 either_held : (count : ℕ) (b : Bool) (x y : Held) → IsNamedHeld count x → IsNamedHeld count y → IsNamedHeld count (if b then x else y)
 either_held count true x y first second = first

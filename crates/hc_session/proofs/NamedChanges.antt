@@ -6,7 +6,8 @@ use Rattle.hc_value.specs.declared.prop.Prop.{Prop}
 use Rattle.hc_table.specs.Attributes.{restricted}
 use Rattle.hc_table.specs.Changes.{Did, Nothing, Moved, Created, Added, Wrote, Reconfigured, Removed, Linked, Locked, Restricted, after, removed_at}
 use Rattle.hc_table.specs.World.{Object, World, props_at, held_at}
-use Rattle.hc_session.specs.Named.{IsNamedHeld, IsNamedProp, AreNamedProps, IsNamedWorld}
+use Rattle.hc_report.specs.Named.{IsNamedHeld}
+use Rattle.hc_session.specs.Named.{IsNamedProp, AreNamedProps, IsNamedWorld}
 
 -- a world with one more object, or with another object in a place
 pub object_added : (count : ℕ) (w : World) (new : Object) → IsNamedWorld count w → AreNamedProps count new.props → IsNamedWorld count (w ++ new ∷ [])

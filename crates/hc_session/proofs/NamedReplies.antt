@@ -10,7 +10,8 @@ use Rattle.hc_ops.specs.Found.{own_reply}
 use Rattle.hc_ops.specs.Get.{read_of, read_nearest, get_reply}
 use Rattle.hc_ops.specs.Keys.{keys_reply}
 use Rattle.hc_ops.specs.Nearest.{Nearest, own_or_further, nearest_among, nearest}
-use Rattle.hc_session.specs.Named.{IsNamedHeld, AreNamedProps, IsNamedWorld, IsShown}
+use Rattle.hc_report.specs.Named.{IsNamedHeld, IsNamedReply}
+use Rattle.hc_session.specs.Named.{AreNamedProps, IsNamedWorld}
 
 -- what was found holds such a text alone
 abbrev IsNamedProperty : ℕ → Option Prop → Type 0
@@ -40,24 +41,24 @@ among_named count (suc n) w (Some o) name named =
     own_or_named count o (property_of (object w o).props name) _
     (property_named count (object w o).props name (named o)) (among_named count n w (object w o).proto name named)
 
-read_named : (count o : ℕ) (held : Held) → IsNamedHeld count held → IsShown count (read_of o held)
+read_named : (count o : ℕ) (held : Held) → IsNamedHeld count held → IsNamedReply count (read_of o held)
 read_named count o (Datum value) named = named
 read_named count o (Pair None setter) named = tt
 read_named count o (Pair (Some getter) setter) named = tt
 
-reading_named : (count o : ℕ) (found : Option Nearest) → IsNamedNearest count found → IsShown count (read_nearest o found)
+reading_named : (count o : ℕ) (found : Option Nearest) → IsNamedNearest count found → IsNamedReply count (read_nearest o found)
 reading_named count o None named = tt
 reading_named count o (Some found) named = read_named count o found.property.held named
 
-pub get_named : (count : ℕ) (w : World) (o name : ℕ) → IsNamedWorld count w → IsShown count (get_reply w o name)
+pub get_named : (count : ℕ) (w : World) (o name : ℕ) → IsNamedWorld count w → IsNamedReply count (get_reply w o name)
 get_named count w o name named = reading_named count o (nearest w o name) (among_named count (length w) w (Some o) name named)
 
-pub own_named : (count : ℕ) (w : World) (o name : ℕ) → IsNamedWorld count w → IsShown count (own_reply w o name)
+pub own_named : (count : ℕ) (w : World) (o name : ℕ) → IsNamedWorld count w → IsNamedReply count (own_reply w o name)
 own_named count w o name named = property_named count (props_at w o) name (named o)
 
 names_named : (count : ℕ) (ps : List Prop) → AreNamedProps count ps → All (λ name. name < count) (map (λ (p : Prop). p.name) ps)
 names_named count [] named = All-nil (λ (name : ℕ). name < count)
 names_named count (p ∷ ps) named = All-cons (λ (name : ℕ). name < count) p.name _ named.0.name (names_named count ps named.1)
 
-pub keys_named : (count : ℕ) (w : World) (o : ℕ) → IsNamedWorld count w → IsShown count (keys_reply w o)
+pub keys_named : (count : ℕ) (w : World) (o : ℕ) → IsNamedWorld count w → IsNamedReply count (keys_reply w o)
 keys_named count w o named = names_named count (props_at w o) (named o)

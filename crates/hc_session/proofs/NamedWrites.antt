@@ -1,55 +1,42 @@
 -- A write of a value whose text is among the names, to a name among them.
-use Rattle.std.proofs.Common.{ℕ, ◌<◌, Bool, true, false, List, [], ◌∷◌, Option, Some, None}
-use Rattle.std.specs.Prelude.{if◌then◌else◌, ◌==◌}
+use Rattle.std.proofs.Common.{ℕ, ◌<◌, Bool, Option, Some, None}
+use Rattle.std.specs.Prelude.{◌==◌}
 use Rattle.hc_value.specs.Attrs.{is_read_only}
 use Rattle.hc_value.specs.declared.attrs.Attrs.{Attrs}
 use Rattle.hc_value.specs.declared.prop.Held.{Held}
 use Rattle.hc_value.specs.declared.prop.Held.TheVariants.{Datum, Pair}
-use Rattle.hc_value.specs.declared.prop.Prop.{Prop}
 use Rattle.hc_value.specs.declared.value.Value.{Value}
-use Rattle.hc_table.specs.World.{World, object, props_at}
-use Rattle.hc_ops.specs.Nearest.{Nearest}
-use Rattle.hc_ops.specs.Set.{Outcome, with_value, create_outcome, writable_outcome, nearest_outcome, outcome_at}
-use Rattle.hc_script.specs.Numbers.{IsValueBelow}
-use Rattle.hc_session.specs.Named.{AreNamedProps, IsNamedWorld, IsShown}
-use Rattle.hc_session.proofs.NamedChanges.{object_set, props_added}
+use Rattle.hc_table.specs.World.{World, object, props_at, place_of}
+use Rattle.hc_ops.specs.Nearest.{Nearest, nearest}
+use Rattle.hc_ops.specs.Set.{create_act, write_act, writable_act, nearest_act, act_at, set_act}
+use Rattle.hc_commands.specs.Numbers.{IsValueBelow}
+use Rattle.hc_report.specs.Named.{IsNamedValue}
+use Rattle.hc_session.proofs.NamedValues.{value_named}
+use Rattle.hc_session.proofs.NamedActs.{IsNamedAct, either_act}
 
--- a reply and a world with such names and texts alone
-abbrev pub IsNamedOutcome : ℕ → Outcome → Type 0
-IsNamedOutcome count outcome = IsShown count outcome.reply × IsNamedWorld count outcome.world
+create_named : (count : ℕ) (w : World) (o name : ℕ) (value : Value) → name < count → IsNamedValue count value → IsNamedAct count (create_act w o name value)
+create_named count w o name value of_name of_value =
+    either_act count (object w o).extensible _ _ (tt, record { name = of_name; held = of_value }) (tt, tt)
 
-either_outcome : (count : ℕ) (b : Bool) (x y : Outcome) → IsNamedOutcome count x → IsNamedOutcome count y → IsNamedOutcome count (if b then x else y)
-either_outcome count true x y first second = first
-either_outcome count false x y first second = second
+write_named : (count o : ℕ) (value : Value) (i : Option ℕ) → IsNamedValue count value → IsNamedAct count (write_act o value i)
+write_named count o value None of_value = (tt, tt)
+write_named count o value (Some i) of_value = (tt, of_value)
 
-either_props : (count : ℕ) (b : Bool) (ps qs : List Prop) → AreNamedProps count ps → AreNamedProps count qs → AreNamedProps count (if b then ps else qs)
-either_props count true ps qs first second = first
-either_props count false ps qs first second = second
+writable_named : (count : ℕ) (w : World) (o name : ℕ) (value : Value) (holder : ℕ) → name < count → IsNamedValue count value → IsNamedAct count (writable_act w o name value holder)
+writable_named count w o name value holder of_name of_value =
+    either_act count (holder == o) _ _
+    (write_named count o value (place_of (props_at w o) name) of_value) (create_named count w o name value of_name of_value)
 
-value_written : (count : ℕ) (ps : List Prop) (name : ℕ) (value : Value) → AreNamedProps count ps → IsValueBelow count value → AreNamedProps count (with_value ps name value)
-value_written count [] name value named of_new = tt
-value_written count (p ∷ ps) name value named of_new =
-    either_props count (p.name == name) _ _
-    (record { name = named.0.name; held = of_new }, named.1) (named.0, value_written count ps name value named.1 of_new)
+nearest_named : (count : ℕ) (w : World) (o name : ℕ) (value : Value) (holder : ℕ) (attrs : Attrs) (held : Held) → name < count → IsNamedValue count value → IsNamedAct count (nearest_act w o name value holder attrs held)
+nearest_named count w o name value holder attrs (Datum old) of_name of_value =
+    either_act count (is_read_only attrs) _ _ (tt, tt) (writable_named count w o name value holder of_name of_value)
+nearest_named count w o name value holder attrs (Pair getter None) of_name of_value = (tt, tt)
+nearest_named count w o name value holder attrs (Pair getter (Some setter)) of_name of_value = (of_value, tt)
 
-create_named : (count : ℕ) (w : World) (o name : ℕ) (value : Value) → IsNamedWorld count w → name < count → IsValueBelow count value → IsNamedOutcome count (create_outcome w o name value)
-create_named count w o name value named of_name of_value =
-    either_outcome count (object w o).extensible _ _
-    (tt, object_set count w o _ named (props_added count (props_at w o) _ (named o) (record { name = of_name; held = of_value }))) (tt, named)
+found_named : (count : ℕ) (w : World) (o name : ℕ) (value : Value) (found : Option Nearest) → name < count → IsNamedValue count value → IsNamedAct count (act_at w o name value found)
+found_named count w o name value None of_name of_value = create_named count w o name value of_name of_value
+found_named count w o name value (Some found) of_name of_value =
+    nearest_named count w o name value found.holder found.property.attrs found.property.held of_name of_value
 
-writable_named : (count : ℕ) (w : World) (o name : ℕ) (value : Value) (holder : ℕ) → IsNamedWorld count w → name < count → IsValueBelow count value → IsNamedOutcome count (writable_outcome w o name value holder)
-writable_named count w o name value holder named of_name of_value =
-    either_outcome count (holder == o) _ _
-    (tt, object_set count w o _ named (value_written count (props_at w o) name value (named o) of_value))
-    (create_named count w o name value named of_name of_value)
-
-nearest_named : (count : ℕ) (w : World) (o name : ℕ) (value : Value) (holder : ℕ) (attrs : Attrs) (held : Held) → IsNamedWorld count w → name < count → IsValueBelow count value → IsNamedOutcome count (nearest_outcome w o name value holder attrs held)
-nearest_named count w o name value holder attrs (Datum old) named of_name of_value =
-    either_outcome count (is_read_only attrs) _ _ (tt, named) (writable_named count w o name value holder named of_name of_value)
-nearest_named count w o name value holder attrs (Pair getter None) named of_name of_value = (tt, named)
-nearest_named count w o name value holder attrs (Pair getter (Some setter)) named of_name of_value = (of_value, named)
-
-pub outcome_named : (count : ℕ) (w : World) (o name : ℕ) (value : Value) (found : Option Nearest) → IsNamedWorld count w → name < count → IsValueBelow count value → IsNamedOutcome count (outcome_at w o name value found)
-outcome_named count w o name value None named of_name of_value = create_named count w o name value named of_name of_value
-outcome_named count w o name value (Some found) named of_name of_value =
-    nearest_named count w o name value found.holder found.property.attrs found.property.held named of_name of_value
+pub set_named : (count : ℕ) (w : World) (o name : ℕ) (value : Value) → name < count → IsValueBelow count value → IsNamedAct count (set_act w o name value)
+set_named count w o name value of_name of_value = found_named count w o name value (nearest w o name) of_name (value_named count value of_value)

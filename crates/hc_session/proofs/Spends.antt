@@ -1,66 +1,58 @@
--- What the lines of a run hand out, and which objects they leave slow for want of room.
-use Rattle.std.proofs.Common.{◌≡◌, ℕ, ◌+◌, ◌≤◌, List, [], ◌∷◌, ◌++◌, length, Option, Some, None, IfSome, sym, ap, subst, arith, length-append}
-use Rattle.std.specs.Prelude.{⊤}
-use Rattle.hc_table.specs.Changes.{Did}
-use Rattle.hc_objects.specs.Came.{Came}
-use Rattle.hc_objects.specs.Spent.{IsFinished, IsSpent}
+-- What the commands of a run hand out, and which objects they leave slow for want of room.
+use Rattle.std.proofs.Common.{◌≡◌, ℕ, ◌+◌, List, [], ◌∷◌, sym, ap, subst, arith}
+use Rattle.hc_table.specs.Changes.{Did, Moved}
+use Rattle.hc_objects.specs.Came.{Came, Moves}
+use Rattle.hc_objects.specs.Spent.{IsSpent}
 use Rattle.hc_objects.specs.State.{ObjectsState, IsObjects}
-use Rattle.hc_script.specs.Lines.{lines_of, TakesLines}
-use Rattle.hc_script.specs.Reading.{Position, TakesCommand}
-use Rattle.hc_script.specs.declared.command.Command.{Command}
-use Rattle.hc_session.specs.Answer.{AnswersPartly}
+use Rattle.hc_session.specs.Keeping.{IsLeft, IsLeftInWant}
 use Rattle.hc_session.specs.Output.{Place, Turns, Answers}
-use Rattle.hc_session.specs.Progress.{Progress}
-use Rattle.hc_session.specs.Replay.{SpendsLines}
-use Rattle.hc_session.specs.State.{State, Stands, did_by, tables_of}
-use Rattle.hc_session.specs.Text.{reply_line}
-use Rattle.hc_session.proofs.Finished.{command_finished}
-use Rattle.hc_session.proofs.Runs.{answers_both, command_answer, takes_both}
+use Rattle.hc_session.specs.Replay.{the_first_place}
+use Rattle.hc_session.specs.State.{Does, Stands, any_pace, tables_of}
+use Rattle.hc_session.specs.Tables.{did_by}
 use mathlib.Core.Logic.{inl, inr}
 
 -- operations spend little: the law of objects
-pub record SpendLittle : Type 0 where
-  pub one : (a b : ObjectsState ⊤) (did : Did) → IsObjects a.heap.view a.kept a.of_null → IsFinished did → Came (λ _ _ _ _. ⊤) a did b → IsSpent 1 a b
-  pub none : (n : ℕ) (a : ObjectsState ⊤) → IsSpent n a a
-  pub onward : (m n : ℕ) (a b c : ObjectsState ⊤) → IsSpent m a b → IsSpent n b c → IsSpent (m + n) a c
+pub record SpendLittle (P : Type 0) : Type 0 where
+  pub one : (a b : ObjectsState P) (did : Did) → IsObjects a.heap.view a.kept a.of_null → Came any_pace a did b → IsSpent 1 a b
+  pub none : (n : ℕ) (a : ObjectsState P) → IsSpent n a a
+  pub onward : (m n : ℕ) (a b c : ObjectsState P) → IsSpent m a b → IsSpent n b c → IsSpent (m + n) a c
 
--- a line asks for one operation at most, and leaves objects that stand
-line_spends : SpendLittle → (old new : Place) (line text : List ℕ) → Stands old.state → Turns old line text new → IsSpent 1 old.state.objects new.state.objects × Stands new.state
-line_spends law old new line text stands (inl passed) = (
-  subst (λ (s : State). IsSpent 1 old.state.objects s.objects) (sym passed.same) (law.none 1 old.state.objects),
-  subst Stands (sym passed.same) stands,
-)
-line_spends law old new line text stands (inr answers) = (
-  law.one old.state.objects new.state.objects (did_by (tables_of old.state) answers.command) stands.sound (command_finished (tables_of old.state) answers.command) answers.does.came,
-  answers.stands,
-)
+module _ {P : Type 0} (law : SpendLittle P) where
+  -- a line asks for one operation at most, and leaves objects that stand
+  lines_spend : (lines : List (List ℕ)) (start end : Place (ObjectsState P)) (text : List ℕ) → Stands start.state → Answers (Does any_pace) start lines text end → (n : ℕ) × (end.begun ≡ start.begun + n) × IsSpent n start.state end.state × Stands end.state
+  lines_spend [] start end text stands answers = (
+    0,
+    omega (arith, ap (λ (p : Place (ObjectsState P)). p.begun) answers.0),
+    subst (λ (p : Place (ObjectsState P)). IsSpent 0 start.state p.state) (sym answers.0) (law.none 0 start.state),
+    subst (λ (p : Place (ObjectsState P)). Stands p.state) (sym answers.0) stands,
+  )
+  lines_spend (line ∷ lines) start end text stands answers = by answers.0 answers.1 answers.3 (lines_spend lines answers.0 end answers.2) answers.4
+    where
+      by : (mid : Place (ObjectsState P)) (first : List ℕ) → Turns (Does any_pace) start line first mid → (Stands mid.state → Answers (Does any_pace) mid lines answers.2 end → (n : ℕ) × (end.begun ≡ mid.begun + n) × IsSpent n mid.state end.state × Stands end.state) → Answers (Does any_pace) mid lines answers.2 end → (n : ℕ) × (end.begun ≡ start.begun + n) × IsSpent n start.state end.state × Stands end.state
+      by mid first (inl passed) further others =
+          let rest = further (subst Stands (sym passed.same) stands) others in
+          (rest.0, omega (arith, rest.1, passed.begun), subst (λ (s : ObjectsState P). IsSpent rest.0 s end.state) passed.same rest.2, rest.3)
+      by mid first (inr answered) further others =
+          let rest = further answered.done.stands others in
+          let one = law.one start.state mid.state (did_by (tables_of start.state) answered.command) stands.sound answered.done.came in
+          (1 + rest.0, omega (arith, rest.1, answered.begun), law.onward 1 rest.0 _ _ _ one rest.2, rest.3)
 
-lines_spend : SpendLittle → (lines : List (List ℕ)) (start end : Place) (text : List ℕ) → Stands start.state → Answers start lines text end → IsSpent (length lines) start.state.objects end.state.objects
-lines_spend law [] start end text stands answers = subst (λ (p : Place). IsSpent 0 start.state.objects p.state.objects) (sym answers.0) (law.none 0 start.state.objects)
-lines_spend law (line ∷ lines) start end text stands answers =
-    let first = line_spends law start answers.0 line answers.1 stands answers.3 in
-    let one_more : 1 + length lines ≡ length (line ∷ lines) = omega arith in
-    subst (λ (n : ℕ). IsSpent n start.state.objects end.state.objects) one_more
-    (law.onward 1 (length lines) start.state.objects answers.0.state.objects end.state.objects first.0 (lines_spend law lines answers.0 end answers.2 first.1 answers.4))
+  -- so at the end of a run
+  pub is_left : (old new : ObjectsState P) → Stands old → (lines : List (List ℕ)) (text : List ℕ) (end : Place (ObjectsState P)) → Answers (Does any_pace) (the_first_place old) lines text end → end.state ≡ new → IsLeft old new end
+  is_left old new stands lines text end answers same =
+      let spent = lines_spend lines (the_first_place old) end text stands answers in
+      let count : spent.0 ≡ end.begun = omega (arith, spent.1) in
+      record {
+        same = same;
+        spent = subst (λ (n : ℕ). IsSpent n old new) count (subst (λ (s : ObjectsState P). IsSpent spent.0 old s) same spent.2);
+      }
 
--- lines that were taken are no more than there are
-taken_few : (before ahead : Option (List ℕ)) (lines : List (List ℕ)) → TakesLines before ahead lines → IfSome before (λ bytes. length lines ≤ length (lines_of bytes))
-taken_few None ahead lines taken = tt
-taken_few (Some before) None lines taken = absurd taken
-taken_few (Some before) (Some ahead) lines taken =
-    omega (arith, ap (λ (xs : List (List ℕ)). length xs) taken, length-append lines (lines_of ahead))
-
--- so does a run so far
-pub run_spends : SpendLittle → (start place : Place) (before taken ahead now : Option (List ℕ)) → Stands start.state → Progress start before taken place ahead now → SpendsLines before start.state place.state
-run_spends law start place before taken ahead now stands so_far =
-    (length so_far.lines, taken_few before ahead so_far.lines so_far.took, lines_spend law so_far.lines start place so_far.text stands so_far.answers)
-
--- and a command whose reply failed
-pub partly_spends : SpendLittle → (start : Place) (before taken : Option (List ℕ)) (at after : Position) (state new : State) (ahead ahead_now now later : Option (List ℕ)) (command : Command) → Stands start.state → Progress start before taken (record { at = at; state = state }) ahead now → TakesCommand at ahead command after ahead_now → AnswersPartly state after.names command new now later → SpendsLines before start.state new
-partly_spends law start before taken at after state new ahead ahead_now now later command stands so_far took answered =
-    let lines = so_far.lines ++ (took.passed ++ took.line ∷ []) in (
-      length lines,
-      taken_few before ahead_now lines (takes_both before ahead ahead_now so_far.lines (took.passed ++ took.line ∷ []) so_far.took took.taken),
-      lines_spend law lines start (record { at = after; state = new }) (so_far.text ++ reply_line after.names answered.reply) stands
-          (answers_both start (record { at = at; state = state }) _ so_far.lines _ so_far.text _ so_far.answers (command_answer at state new ahead ahead_now command after answered.reply took answered.does answered.stands)),
-    )
+  -- and where memory ran out
+  pub is_left_in_want : (old new : ObjectsState P) → Stands old → (lines : List (List ℕ)) (text : List ℕ) (place : Place (ObjectsState P)) → Answers (Does any_pace) (the_first_place old) lines text place → Moves any_pace place.state new → IsLeftInWant old new place
+  is_left_in_want old new stands lines text place answers moves =
+      let spent = lines_spend lines (the_first_place old) place text stands answers in
+      let count : spent.0 + 1 ≡ place.begun + 1 = omega (arith, spent.1) in
+      record {
+        moves = moves;
+        spent = subst (λ (n : ℕ). IsSpent n old new) count (law.onward spent.0 1 old place.state new spent.2 (law.one place.state new Moved spent.3.sound moves));
+      }

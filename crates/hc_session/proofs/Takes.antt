@@ -1,9 +1,9 @@
 -- What a call of the reader leads to.
 use Rattle.std.proofs.Common.{◌≡◌, ℕ, ◌<◌, ◌≤◌, true, false, List, [], ◌∷◌, length, ◌∙◌, ap, arith, Option}
-use Rattle.hc_script.specs.Grammar.{Form, names_after}
+use Rattle.hc_commands.specs.Grammar.{Form, names_after}
 use Rattle.hc_script.specs.Reading.{Position, IsAsked, ArePassed, TakesCommand}
-use Rattle.hc_script.specs.declared.command.Command.{Command}
-use Rattle.hc_script.specs.declared.limits.TheConstants.{MAX_BYTES}
+use Rattle.hc_commands.specs.declared.command.Command.{Command}
+use Rattle.hc_lines.specs.declared.limits.TheConstants.{MAX_BYTES}
 
 passed_names : (at after : Position) (lines : List (List ℕ)) → ArePassed at lines after → after.names ≡ at.names
 passed_names at after [] passed = ap (λ (p : Position). p.names) passed

@@ -1,9 +1,10 @@
-pub mod Answer
+pub mod Tables
+pub mod State
 pub mod Fault
+pub mod Output
+pub mod Replay
+pub mod Keeping
 pub mod Fresh
 pub mod Named
-pub mod Output
+pub mod Answer
 pub mod Progress
-pub mod Replay
-pub mod State
-pub mod Text

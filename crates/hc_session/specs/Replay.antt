@@ -1,55 +1,121 @@
 -- What a replay has written, by the status with which it ends.
-use Rattle.std.specs.Prelude.{◌≡◌, ◌⊎◌, ℕ, ◌+◌, List, [], ◌∷◌, ◌++◌, ◌≤◌, length, Option, IfSome, codes}
-use Rattle.hc_script.specs.Outside.{AppendsBytes, Rose}
-use Rattle.hc_script.specs.Lines.{lines_of}
+use Rattle.std.specs.Prelude.{◌≡◌, ◌⊎◌, ℕ, ◌+◌, List, [], ◌∷◌, ◌++◌, Option, codes}
+use Rattle.hc_value.specs.declared.reply.Reply.{Reply}
+use Rattle.hc_lines.specs.Outside.{AppendsBytes, Rose}
+use Rattle.hc_lines.specs.Lines.{lines_of}
 use Rattle.hc_script.specs.Reading.{Position, IsPassed, IsAsked, IsRefused, the_start}
-use Rattle.hc_script.specs.declared.command.Command.{Command}
+use Rattle.hc_commands.specs.declared.command.Command.{Command}
 use Rattle.hc_script.specs.declared.fault.What.{What}
 use Rattle.hc_script.specs.declared.fault.Status.{Status}
 use Rattle.hc_script.specs.declared.fault.Status.TheVariants.{Done, BadWords, BadScript, ReadFault, WriteFault, Memory}
-use Rattle.hc_objects.specs.Spent.{IsSpent}
-use Rattle.hc_session.specs.State.{State}
+use Rattle.hc_table.specs.Kept.{Kept as Tables}
+use Rattle.hc_session.specs.Tables.{AnswersOnTables}
 use Rattle.hc_session.specs.Fault.{refusal_line, read_line, usage_line}
-use Rattle.hc_session.specs.Output.{Place, AnswersAll, AnswersUntilRefused, AnswersSome, AnswersUntilFault, AppendsPrefix}
+use Rattle.hc_session.specs.Output.{Outside, Place, AnswersAll, AnswersUntilRefused, AnswersUntilFault, AnswersSome, AnswersNext, AppendsPartly, AppendsFront}
 
 -- the words of the program that ask for a replay
 abbrev pub AskForReplay : List (List ℕ) → Type 0
 AskForReplay words = words ≡ codes "replay" ∷ []
 
 -- the place before the first line
-abbrev pub the_first_place : State → Place
-the_first_place state = record { at = the_start; state = state }
+abbrev pub the_first_place : {S : Type 0} → S → Place S
+the_first_place state = record { at = the_start; begun = 0; state = state }
 
--- a text that some end of the run, in this state, would have written whole: the replies so far, with or without a fault line
-abbrev pub MayWrite : Place → Option (List ℕ) → State → List ℕ → Type 0
-MayWrite start before state whole = (text : List ℕ) × (end : Place) × (end.state ≡ state) × (
-    (AnswersSome start before text end × ((whole ≡ text) ⊎ (whole ≡ text ++ read_line)))
-    ⊎ ((n : ℕ) × (what : What) × AnswersUntilRefused start before text end n what × (whole ≡ text ++ refusal_line n what)))
+-- How a run ends: the last are what a command does, what holds where the run ends, and what holds of a place behind which memory
+-- ran out
 
--- what was written by a replay that ended so, and left this state
-abbrev pub WritesReplay : Place → Option (List ℕ) → Option (List ℕ) → State → Option (List ℕ) → Status → Option (List ℕ) → Type 0
-WritesReplay start before now state taken Done taken_now =
-    (text : List ℕ) × (end : Place) × (end.state ≡ state) × AnswersAll start before now text end × AppendsBytes taken text taken_now
-WritesReplay start before now state taken BadWords taken_now = ⊥
-WritesReplay start before now state taken (BadScript n what) taken_now =
-    (text : List ℕ) × (end : Place) × (end.state ≡ state) × AnswersUntilRefused start before text end n what
-    × AppendsBytes taken (text ++ refusal_line n what) taken_now
-WritesReplay start before now state taken ReadFault taken_now =
-    (text : List ℕ) × (end : Place) × (end.state ≡ state) × AnswersUntilFault start before now text end
-    × AppendsBytes taken (text ++ read_line) taken_now
-WritesReplay start before now state taken WriteFault taken_now =
-    (whole : List ℕ) × MayWrite start before state whole × AppendsPrefix taken whole taken_now
-WritesReplay start before now state taken Memory taken_now =
-    (whole : List ℕ) × (last : State) × MayWrite start before last whole × AppendsPrefix taken whole taken_now
+-- each line was answered, and all was written
+pub record EndsDone {S : Type 0} (start : Place S) (before after : Outside) (does : S → Command → Reply → S → Type 0) (ends : Place S → Type 0) : Type 0 where
+  pub text : List ℕ
+  pub end : Place S
+  pub answers : AnswersAll does start before.left after.left text end
+  pub at_end : ends end
+  pub written : AppendsBytes before.taken text after.taken
+
+-- a line was refused, and its line written
+pub record EndsRefused {S : Type 0} (n : ℕ) (what : What) (start : Place S) (before after : Outside) (does : S → Command → Reply → S → Type 0) (ends : Place S → Type 0) : Type 0 where
+  pub text : List ℕ
+  pub end : Place S
+  pub answers : AnswersUntilRefused does start before.left text end n what
+  pub at_end : ends end
+  pub written : AppendsBytes before.taken (text ++ refusal_line n what) after.taken
+
+-- a read failed, and its line was written
+pub record EndsUnread {S : Type 0} (start : Place S) (before after : Outside) (does : S → Command → Reply → S → Type 0) (ends : Place S → Type 0) : Type 0 where
+  pub text : List ℕ
+  pub end : Place S
+  pub answers : AnswersUntilFault does start before.left after.left text end
+  pub at_end : ends end
+  pub written : AppendsBytes before.taken (text ++ read_line) after.taken
+
+-- a write failed in the reply of a command: the replies before it were written whole, and the state is the one after it
+pub record FailsInReply {S : Type 0} (start : Place S) (before after : Outside) (does : S → Command → Reply → S → Type 0) (ends : Place S → Type 0) : Type 0 where
+  pub lines : List (List ℕ)
+  pub text : List ℕ
+  pub place : Place S
+  pub more : List ℕ
+  pub end : Place S
+  pub answers : AnswersSome does start before.left lines text place
+  pub next : AnswersNext does before.left lines place more end
+  pub at_end : ends end
+  pub written : AppendsPartly before.taken text more after.taken
+
+-- a write failed in the line of a refusal
+pub record FailsInRefusal {S : Type 0} (start : Place S) (before after : Outside) (does : S → Command → Reply → S → Type 0) (ends : Place S → Type 0) : Type 0 where
+  pub text : List ℕ
+  pub end : Place S
+  pub n : ℕ
+  pub what : What
+  pub answers : AnswersUntilRefused does start before.left text end n what
+  pub at_end : ends end
+  pub written : AppendsPartly before.taken text (refusal_line n what) after.taken
+
+-- a write failed in the line of a read fault
+pub record FailsInReadLine {S : Type 0} (start : Place S) (before after : Outside) (does : S → Command → Reply → S → Type 0) (ends : Place S → Type 0) : Type 0 where
+  pub text : List ℕ
+  pub end : Place S
+  pub answers : AnswersUntilFault does start before.left after.left text end
+  pub at_end : ends end
+  pub written : AppendsPartly before.taken text read_line after.taken
+
+-- memory ran out: all that was written are the replies of some lines, whole. The state is the one after them, or the next
+-- line's command was performed, and its reply not written
+pub record EndsInWant {S : Type 0} (start : Place S) (before after : Outside) (does : S → Command → Reply → S → Type 0) (ends stays : Place S → Type 0) : Type 0 where
+  pub lines : List (List ℕ)
+  pub text : List ℕ
+  pub place : Place S
+  pub answers : AnswersSome does start before.left lines text place
+  pub written : AppendsBytes before.taken text after.taken
+  pub leaves : stays place ⊎ ((more : List ℕ) × (end : Place S) × AnswersNext does before.left lines place more end × ends end)
+
+-- a replay that ended so
+abbrev pub EndsRun : {S : Type 0} → Place S → Outside → Status → Outside → (S → Command → Reply → S → Type 0) → (Place S → Type 0) → (Place S → Type 0) → Type 0
+EndsRun start before Done after does ends stays = EndsDone start before after does ends
+EndsRun start before BadWords after does ends stays = ⊥
+EndsRun start before (BadScript n what) after does ends stays = EndsRefused n what start before after does ends
+EndsRun start before ReadFault after does ends stays = EndsUnread start before after does ends
+EndsRun start before WriteFault after does ends stays =
+    FailsInReply start before after does ends
+    ⊎ (FailsInRefusal start before after does ends ⊎ FailsInReadLine start before after does ends)
+EndsRun start before Memory after does ends stays = EndsInWant start before after does ends stays
+
+-- no objects, and as many as may be made
+abbrev pub no_objects : ℕ → Tables
+no_objects limit = record { world = []; limit = limit }
+
+-- a replay over property tables that begins without objects, and leaves some tables
+abbrev pub RepliesAsTables : ℕ → Outside → Status → Outside → Type 0
+RepliesAsTables limit before status after =
+    (left : Tables) × EndsRun (the_first_place (no_objects limit)) before status after AnswersOnTables (λ end. end.state ≡ left) (λ place. place.state ≡ left)
 
 -- what was written where the words ask for nothing that is known
-abbrev pub WritesUsage : Option (List ℕ) → Status → Option (List ℕ) → Type 0
-WritesUsage taken BadWords taken_now = AppendsBytes taken usage_line taken_now
-WritesUsage taken WriteFault taken_now = AppendsPrefix taken usage_line taken_now
-WritesUsage taken Done taken_now = ⊥
-WritesUsage taken (BadScript n what) taken_now = ⊥
-WritesUsage taken ReadFault taken_now = ⊥
-WritesUsage taken Memory taken_now = ⊥
+abbrev pub WritesUsage : Outside → Status → Outside → Type 0
+WritesUsage before BadWords after = AppendsBytes before.taken usage_line after.taken
+WritesUsage before WriteFault after = AppendsFront before.taken usage_line after.taken
+WritesUsage before Done after = ⊥
+WritesUsage before (BadScript n what) after = ⊥
+WritesUsage before ReadFault after = ⊥
+WritesUsage before Memory after = ⊥
 
 -- the line is accepted: it asks for nothing, or for a command
 abbrev pub IsAccepted : Position → List ℕ → Position → Type 0
@@ -75,16 +141,10 @@ abbrev pub AreAllAccepted : List ℕ → Type 0
 AreAllAccepted bytes = (end : Position) × AreAccepted the_start (lines_of bytes) end
 
 -- want of memory, a failed read or a failed write came first
-abbrev pub IsCutShort : Status → ℕ → ℕ → ℕ → ℕ → Type 0
-IsCutShort status reads_before reads_after writes_before writes_after =
-    (status ≡ Memory) ⊎ (Rose reads_before reads_after ⊎ Rose writes_before writes_after)
+abbrev pub IsCutShort : Outside → Status → Outside → Type 0
+IsCutShort before status after = (status ≡ Memory) ⊎ (Rose before.reads after.reads ⊎ Rose before.writes after.writes)
 
--- what the lines of the source, of which each asks for one operation at most, hand out, and which objects they leave slow for
--- want of room
-abbrev pub SpendsLines : Option (List ℕ) → State → State → Type 0
-SpendsLines source old new = (n : ℕ) × IfSome source (λ bytes. n ≤ length (lines_of bytes)) × IsSpent n old.objects new.objects
-
--- the last line was written, or a front of it
+-- the last line was written, or a proper front of it
 abbrev pub EndsWith : Option (List ℕ) → List ℕ → Status → Status → Option (List ℕ) → Type 0
 EndsWith taken line status end now =
-    ((end ≡ status) × AppendsBytes taken line now) ⊎ ((end ≡ WriteFault) × AppendsPrefix taken line now)
+    ((end ≡ status) × AppendsBytes taken line now) ⊎ ((end ≡ WriteFault) × AppendsFront taken line now)

@@ -1,19 +1,20 @@
 ghost use Rattle.std.specs.Prelude.{◌≡◌, ◌≤◌, length, OnOk, IsErrOf};
 ghost use Rattle.hc_names.specs.declared.TheConstants.{MAX_NAMES};
-ghost use Rattle.hc_script.specs.Outside.{AppendsBytes, Rose};
-ghost use Rattle.hc_script.specs.Numbers.{IsCommandBelow};
+ghost use Rattle.hc_lines.specs.Outside.{AppendsBytes, Rose};
+ghost use Rattle.hc_commands.specs.Numbers.{IsCommandBelow};
 ghost use Rattle.hc_session.specs.Named.{IsNamedWorld};
-ghost use Rattle.hc_session.specs.Answer.{AnswersCommand, AnswersPartly};
-ghost use Rattle.hc_script.specs.Verbs.{IsBuilt};
+ghost use Rattle.hc_objects.specs.Came.{world_of};
+ghost use Rattle.hc_session.specs.Answer.{AnswersCommand, AnswersPartly, LacksMemory};
+ghost use Rattle.hc_commands.specs.Verbs.{IsBuilt};
 
-use crate::report::render_reply;
 use crate::write::write_piece;
 use crate::{Scripted, Session};
 use hc_names::Names;
+use hc_report::render_reply;
 use hc_script::{Command, Sink};
 
 /// Why a run ends in the midst of a command.
-#[derive(Clone, Copy, Debug, PartialEq, Eq)]
+#[derive(Clone, Copy)]
 pub enum Halt {
     Memory,
     Write,
@@ -29,13 +30,14 @@ pub fn answer<K: Sink>(
 ) -> Result<(), Halt>
     requires built { IsBuilt command.now }
     requires names { length names.now ≤ MAX_NAMES }
-    requires world { IsNamedWorld (length names.now) session.old.state.world }
+    requires world { IsNamedWorld (length names.now) (world_of session.old.objects) }
     requires command { IsCommandBelow (length names.now) command.now }
-    ensures ok { OnOk result (AnswersCommand session.old.state names.now command.now session.new.state
+    ensures ok { OnOk result (AnswersCommand session.old.objects names.now command.now session.new.objects
         (K.taken sink.old) (K.taken sink.new)) }
-    ensures world { OnOk result (IsNamedWorld (length names.now) session.new.state.world) }
+    ensures world { OnOk result (IsNamedWorld (length names.now) (world_of session.new.objects)) }
     ensures memory { IsErrOf result Halt.Memory → K.taken sink.new ≡ K.taken sink.old }
-    ensures write { IsErrOf result Halt.Write → AnswersPartly session.old.state names.now command.now session.new.state
+    ensures want { IsErrOf result Halt.Memory → LacksMemory session.old.objects command.now session.new.objects }
+    ensures write { IsErrOf result Halt.Write → AnswersPartly session.old.objects names.now command.now session.new.objects
         (K.taken sink.old) (K.taken sink.new) }
     ensures cause { IsErrOf result Halt.Write → Rose (K.faults sink.old) (K.faults sink.new) }
     ensures grows { K.faults sink.old ≤ K.faults sink.new }

@@ -2,13 +2,14 @@
 #![tactic(auto)]
 
 mod answer;
+mod pace;
 mod perform;
+mod refusal;
 mod replaying;
-mod report;
 mod session;
-#[cfg(test)]
-mod tests;
 mod write;
 
+pub use pace::Scripted;
+pub use perform::perform_on_tables;
 pub use replaying::replay;
-pub use session::{Scripted, Session};
+pub use session::Session;

@@ -1,12 +1,18 @@
-//! The commands that ask and change property tables, however these are kept.
+//! What each command does: the questions of how objects are kept, and the commands on property tables, however these are
+//! kept.
 ghost use Rattle.std.specs.Prelude.{◌≡◌, ◌≤◌, true, length, IfOk, OnOk, OnErr};
 ghost use Rattle.hc_value.specs.declared.word.TheConstants.{NUMBER_LIMIT};
-ghost use Rattle.hc_script.specs.declared.command.Command.TheVariants.{New};
+ghost use Rattle.hc_commands.specs.Verbs.{IsBuilt};
+ghost use Rattle.hc_commands.specs.declared.command.Command.TheVariants.{New, Shape as ShapeCommand, Same as SameCommand};
+ghost use Rattle.hc_objects.specs.Came.{Came, IsStill, world_of};
 ghost use Rattle.hc_table.specs.Changes.{Moved, IsThere};
-ghost use Rattle.hc_session.specs.State.{HasNumbers, IsOnTables, DoesOnTables, all_there, answer_there, did_there, did_by, did_in_want};
+ghost use Rattle.hc_session.specs.State.{IsTrueReply, did_in_want, tables_of};
+ghost use Rattle.hc_session.specs.Tables.{AnswersOnTables, HasNumbers, IsOnTables, IsReplyOf, act_there, all_there, did_by, did_in, new_act, tables_in};
 
 mod there;
 
+use hc_heap::Pace;
+use hc_objects::Objects;
 use hc_ops::{define, delete, freeze, get, has, keys, lock, own, seal, set, set_proto};
 use hc_script::Command;
 use hc_table::{TableFault, Tables};
@@ -14,17 +20,68 @@ use hc_value::{Memory, Reply};
 use std::alloc::Global;
 use there::are_all_there;
 
+/// Performs a command on objects. The allocator is for lists of names.
+pub fn perform<P: Pace>(
+    objects: &mut Objects<P>,
+    command: &Command,
+    alloc: Global,
+) -> Result<Reply, Memory>
+    requires built { IsBuilt command.now }
+    requires numbers { HasNumbers command.now }
+    requires few { objects.old.heap.view.shape.objects ≤ NUMBER_LIMIT }
+    ensures answers { IfOk result (λ reply. AnswersOnTables (tables_of objects.old) command.now reply (tables_of objects.new)) }
+    ensures kept { IfOk result (λ reply. IsTrueReply objects.old command.now reply) }
+    ensures came { OnOk result (Came P.went objects.old (did_by (tables_of objects.old) command.now) objects.new) }
+    ensures want { OnErr result (Came P.went objects.old (did_in_want command.now) objects.new) }
+    ensures err { OnErr result (world_of objects.new ≡ world_of objects.old) }
+    ensures limit { objects.new.heap.view.shape.objects ≡ objects.old.heap.view.shape.objects }
+{
+    match command {
+        Command::Shape(o) => tell_shape(objects, *o),
+        Command::Same(a, b) => tell_same(objects, *a, *b),
+        _ => perform_on_tables(objects, command, alloc),
+    }
+}
+
+// How an object is kept, if it is there.
+fn tell_shape<P: Pace>(objects: &mut Objects<P>, o: u32) -> Result<Reply, Memory>
+    ensures answers { IfOk result (λ reply. AnswersOnTables (tables_of objects.old) (ShapeCommand o) reply (tables_of objects.new)) }
+    ensures kept { IfOk result (λ reply. IsTrueReply objects.old (ShapeCommand o) reply) }
+    ensures still { IsStill objects.old objects.new }
+{
+    if o >= objects.count() {
+        return Ok(Reply::NoObject);
+    }
+    Ok(Reply::Shape(objects.shape(o)?))
+}
+
+// Whether two objects are fast and have one map, if they are there.
+fn tell_same<P: Pace>(objects: &mut Objects<P>, a: u32, b: u32) -> Result<Reply, Memory>
+    ensures answers { IfOk result (λ reply. AnswersOnTables (tables_of objects.old) (SameCommand a b) reply (tables_of objects.new)) }
+    ensures kept { IfOk result (λ reply. IsTrueReply objects.old (SameCommand a b) reply) }
+    ensures still { IsStill objects.old objects.new }
+{
+    let count = objects.count();
+    if a >= count || b >= count {
+        return Ok(Reply::NoObject);
+    }
+    Ok(Reply::Flag(objects.same(a, b)?))
+}
+
 /// Performs a command on property tables. The allocator is for lists of names.
-pub fn perform<T: Tables>(tables: &mut T, command: &Command, alloc: Global) -> Result<Reply, Memory>
+pub fn perform_on_tables<T: Tables>(
+    tables: &mut T,
+    command: &Command,
+    alloc: Global,
+) -> Result<Reply, Memory>
     requires tables { IsOnTables command.now }
     requires numbers { HasNumbers command.now }
     requires few { T.limit tables.old ≤ NUMBER_LIMIT }
-    ensures done { IfOk result (λ reply. DoesOnTables (record { world = T.world tables.old; limit = T.limit tables.old })
-        command.now reply (record { world = T.world tables.new; limit = T.limit tables.new })) }
-    ensures came { OnOk result (T.came tables.old (did_by (record { world = T.world tables.old; limit = T.limit tables.old }) command.now)
-        tables.new) }
+    ensures done { IfOk result (λ reply. AnswersOnTables (tables_in T.world T.limit tables.old) command.now reply
+        (tables_in T.world T.limit tables.new)) }
+    ensures came { OnOk result (T.came tables.old (did_by (tables_in T.world T.limit tables.old) command.now) tables.new) }
     ensures err { OnErr result (T.world tables.new ≡ T.world tables.old) }
-    ensures moved { OnErr result (T.came tables.old (did_in_want command.now) tables.new) }
+    ensures want { OnErr result (T.came tables.old (did_in_want command.now) tables.new) }
     ensures limit { T.limit tables.new ≡ T.limit tables.old }
 {
     let count = tables.count();
@@ -39,15 +96,11 @@ fn act<T: Tables>(tables: &mut T, command: &Command, alloc: Global) -> Result<Re
     requires tables { IsOnTables command.now }
     requires numbers { HasNumbers command.now }
     requires few { length (T.world tables.old) ≤ NUMBER_LIMIT }
-    requires there { all_there (record { world = T.world tables.old; limit = T.limit tables.old }) command.now ≡ true }
-    ensures reply { IfOk result (λ reply. reply
-        ≡ (answer_there (record { world = T.world tables.old; limit = T.limit tables.old }) command.now).reply) }
-    ensures world { OnOk result (T.world tables.new
-        ≡ (answer_there (record { world = T.world tables.old; limit = T.limit tables.old }) command.now).tables.world) }
-    ensures came { OnOk result (T.came tables.old (did_there (record { world = T.world tables.old; limit = T.limit tables.old }) command.now)
-        tables.new) }
+    requires there { all_there (tables_in T.world T.limit tables.old) command.now ≡ true }
+    ensures reply { IfOk result (λ reply. IsReplyOf command.now (act_there (tables_in T.world T.limit tables.old) command.now) reply) }
+    ensures came { OnOk result (T.came tables.old (did_in (act_there (tables_in T.world T.limit tables.old) command.now)) tables.new) }
     ensures err { OnErr result (T.world tables.new ≡ T.world tables.old) }
-    ensures moved { OnErr result (T.came tables.old (did_in_want command.now) tables.new) }
+    ensures want { OnErr result (T.came tables.old (did_in_want command.now) tables.new) }
     ensures limit { T.limit tables.new ≡ T.limit tables.old }
 {
     match command {
@@ -72,12 +125,8 @@ fn act<T: Tables>(tables: &mut T, command: &Command, alloc: Global) -> Result<Re
 // Makes an object, if there may be one more.
 fn create<T: Tables>(tables: &mut T, proto: Option<u32>) -> Result<Reply, Memory>
     requires there { IsThere (T.world tables.old) proto }
-    ensures reply { IfOk result (λ reply. reply
-        ≡ (answer_there (record { world = T.world tables.old; limit = T.limit tables.old }) (New proto)).reply) }
-    ensures world { OnOk result (T.world tables.new
-        ≡ (answer_there (record { world = T.world tables.old; limit = T.limit tables.old }) (New proto)).tables.world) }
-    ensures came { OnOk result (T.came tables.old (did_there (record { world = T.world tables.old; limit = T.limit tables.old }) (New proto))
-        tables.new) }
+    ensures reply { IfOk result (λ reply. reply ≡ (new_act (tables_in T.world T.limit tables.old) proto).reply) }
+    ensures came { OnOk result (T.came tables.old (new_act (tables_in T.world T.limit tables.old) proto).did tables.new) }
     ensures err { OnErr result (T.world tables.new ≡ T.world tables.old) }
     ensures moved { OnErr result (T.came tables.old Moved tables.new) }
     ensures limit { T.limit tables.new ≡ T.limit tables.old }

@@ -1,13 +1,14 @@
 ghost use Rattle.std.specs.Prelude.{◌≡◌, ◌⊎◌, ◌↔◌, ◌≤◌, ℕ, [], true, codes, map, string_bytes, IfSome, IsTrue};
-ghost use Rattle.hc_script.specs.Lines.{ahead};
-ghost use Rattle.hc_script.specs.Outside.{Rose};
+ghost use Rattle.hc_lines.specs.Outside.{Rose};
 ghost use Rattle.hc_script.specs.Reader.{the_new_reader};
 ghost use Rattle.hc_session.specs.Fresh.{IsUntouched};
+ghost use Rattle.hc_session.specs.Keeping.{KeepsObjects};
+ghost use Rattle.hc_session.specs.Output.{seen};
 ghost use Rattle.hc_session.specs.Progress.{EndsByFault};
-ghost use Rattle.hc_session.specs.Replay.{AskForReplay, WritesReplay, WritesUsage, IsFirstRefused, AreAllAccepted, IsCutShort, SpendsLines, EndsWith, the_first_place};
+ghost use Rattle.hc_session.specs.Replay.{AskForReplay, RepliesAsTables, WritesUsage, IsFirstRefused, AreAllAccepted, IsCutShort, EndsWith};
 
 use crate::answer::{Halt, answer};
-use crate::report::render_refusal;
+use crate::refusal::render_refusal;
 use crate::write::write_piece;
 use crate::{Scripted, Session};
 use hc_objects::operations_spend_little;
@@ -25,25 +26,33 @@ pub fn replay<S: Source, K: Sink>(
     requires { session.old.fresh ≡ true }
 
     // It begins where nothing was done.
-    ensures start { IsUntouched session.old.state }
-    // What is written: the replies of a run over the lines, and the line of a fault; or the usage.
-    ensures written { AskForReplay (map string_bytes words.now) → WritesReplay (the_first_place session.old.state)
-        (S.left source.old) (S.left source.new) session.new.state (K.taken sink.old) result (K.taken sink.new) }
-    ensures usage { (AskForReplay (map string_bytes words.now) → ⊥) → WritesUsage (K.taken sink.old) result (K.taken sink.new) }
+    ensures start { IsUntouched session.old.objects }
+    // The replies are those of plain property tables, line by line, and the line of a fault comes last.
+    ensures replies { AskForReplay (map string_bytes words.now) → RepliesAsTables session.old.objects.heap.view.shape.objects
+        (seen S.left S.faults K.taken K.faults source.old sink.old) result
+        (seen S.left S.faults K.taken K.faults source.new sink.new) }
+    // How the objects behind these tables are kept: hidden classes and dictionaries, why, and what they hand out.
+    ensures kept { AskForReplay (map string_bytes words.now) → KeepsObjects
+        session.old.objects (seen S.left S.faults K.taken K.faults source.old sink.old)
+        session.new.objects result (seen S.left S.faults K.taken K.faults source.new sink.new) }
+
+    // Other words ask for nothing: the usage is written, and all else stays.
+    ensures usage { (AskForReplay (map string_bytes words.now) → ⊥) → WritesUsage
+        (seen S.left S.faults K.taken K.faults source.old sink.old) result
+        (seen S.left S.faults K.taken K.faults source.new sink.new) }
+    ensures untouched { (AskForReplay (map string_bytes words.now) → ⊥)
+        → (session.new ≡ session.old) × (source.new ≡ source.old) }
 
     // The first line that is refused ends the run by its number and word, or a fault or want of memory came before.
     ensures refused { AskForReplay (map string_bytes words.now) → IfSome (S.left source.old) (λ bytes. (n : ℕ) (what : What)
         → IsFirstRefused bytes n what → (result ≡ Status.BadScript n what)
-        ⊎ IsCutShort result (S.faults source.old) (S.faults source.new) (K.faults sink.old) (K.faults sink.new)) }
+        ⊎ IsCutShort (seen S.left S.faults K.taken K.faults source.old sink.old) result
+        (seen S.left S.faults K.taken K.faults source.new sink.new)) }
     // Where each line is accepted the run is done, or a fault or want of memory came before.
     ensures complete { AskForReplay (map string_bytes words.now) → IfSome (S.left source.old) (λ bytes.
         AreAllAccepted bytes → (result ≡ Status.Done)
-        ⊎ IsCutShort result (S.faults source.old) (S.faults source.new) (K.faults sink.old) (K.faults sink.new)) }
-
-    // What the lines handed out together: at most the greatest need of an operation for each; and an object is slow for
-    // want of room only where some region is nearly full at the end.
-    ensures spent { AskForReplay (map string_bytes words.now) → (result ≡ Status.Memory)
-        ⊎ SpendsLines (S.left source.old) session.old.state session.new.state }
+        ⊎ IsCutShort (seen S.left S.faults K.taken K.faults source.old sink.old) result
+        (seen S.left S.faults K.taken K.faults source.new sink.new)) }
 
     ensures read { result ≡ Status.ReadFault → Rose (S.faults source.old) (S.faults source.new) }
     ensures write { result ≡ Status.WriteFault → Rose (K.faults sink.old) (K.faults sink.new) }
@@ -61,23 +70,27 @@ fn replay_words<S: Source, K: Sink>(
     session: &mut Session<Scripted>,
 ) -> Status
     requires { session.old.fresh ≡ true }
-    ensures written { AskForReplay (map string_bytes words.now) → WritesReplay (the_first_place session.old.state)
-        (S.left source.old) (S.left source.new) session.new.state (K.taken sink.old) result (K.taken sink.new) }
-    ensures usage { (AskForReplay (map string_bytes words.now) → ⊥) → WritesUsage (K.taken sink.old) result (K.taken sink.new) }
-    ensures spent { AskForReplay (map string_bytes words.now) → (result ≡ Status.Memory)
-        ⊎ SpendsLines (S.left source.old) session.old.state session.new.state }
+    ensures kept { AskForReplay (map string_bytes words.now) → KeepsObjects
+        session.old.objects (seen S.left S.faults K.taken K.faults source.old sink.old)
+        session.new.objects result (seen S.left S.faults K.taken K.faults source.new sink.new) }
+    ensures usage { (AskForReplay (map string_bytes words.now) → ⊥) → WritesUsage
+        (seen S.left S.faults K.taken K.faults source.old sink.old) result
+        (seen S.left S.faults K.taken K.faults source.new sink.new) }
+    ensures untouched { (AskForReplay (map string_bytes words.now) → ⊥)
+        → (session.new ≡ session.old) × (source.new ≡ source.old) }
     ensures read { result ≡ Status.ReadFault → Rose (S.faults source.old) (S.faults source.new) }
     ensures write { result ≡ Status.WriteFault → Rose (K.faults sink.old) (K.faults sink.new) }
 {
     if !ask_for_replay(words) {
         return end_with(sink, b"! usage\n", Status::BadWords);
     }
+    operations_spend_little::<Scripted>();
+    session.stands();
     let alloc = session.allocator();
     let Ok(mut reader) = ScriptReader::new(alloc) else {
         return Status::Memory;
     };
     let mut text = Vec::new(alloc);
-    session.stands();
     replay_lines(source, sink, session, &mut reader, &mut text)
 }
 
@@ -118,15 +131,15 @@ fn replay_lines<S: Source, K: Sink>(
     text: &mut Vec<u8>,
 ) -> Status
     requires reader { reader.old ≡ the_new_reader }
-    requires untouched { IsUntouched session.old.state }
-    ensures written { WritesReplay (the_first_place session.old.state)
-        (S.left source.old) (S.left source.new) session.new.state (K.taken sink.old) result (K.taken sink.new) }
-    ensures spent { (result ≡ Status.Memory) ⊎ SpendsLines (S.left source.old) session.old.state session.new.state }
+    requires untouched { IsUntouched session.old.objects }
+    ensures kept { KeepsObjects
+        session.old.objects (seen S.left S.faults K.taken K.faults source.old sink.old)
+        session.new.objects result (seen S.left S.faults K.taken K.faults source.new sink.new) }
     ensures read { result ≡ Status.ReadFault → Rose (S.faults source.old) (S.faults source.new) }
     ensures write { result ≡ Status.WriteFault → Rose (K.faults sink.old) (K.faults sink.new) }
 {
     commands_are_named();
-    operations_spend_little();
+    operations_spend_little::<Scripted>();
     session.stands();
     'commands: loop {
         match reader.next(source) {

@@ -1,13 +1,13 @@
 ghost use Rattle.std.specs.Prelude.{◌≡◌, ◌≤◌, OnOk, OnErr};
-ghost use Rattle.hc_script.specs.Outside.{AppendsBytes, Rose};
-ghost use Rattle.hc_session.specs.Output.{AppendsPrefix};
+ghost use Rattle.hc_lines.specs.Outside.{AppendsBytes, Rose};
+ghost use Rattle.hc_session.specs.Output.{AppendsFront};
 
 use hc_script::{Failed, Sink};
 
 /// Writes a whole piece, by as many calls as the sink wants.
 pub fn write_piece<K: Sink>(sink: &mut K, piece: &[u8]) -> Result<(), Failed>
     ensures ok { OnOk result (AppendsBytes (K.taken sink.old) piece.now (K.taken sink.new)) }
-    ensures err { OnErr result (AppendsPrefix (K.taken sink.old) piece.now (K.taken sink.new)) }
+    ensures err { OnErr result (AppendsFront (K.taken sink.old) piece.now (K.taken sink.new)) }
     ensures cause { OnErr result (Rose (K.faults sink.old) (K.faults sink.new)) }
     ensures grows { K.faults sink.old ≤ K.faults sink.new }
 {

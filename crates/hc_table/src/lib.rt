@@ -13,6 +13,3 @@ pub use fault::TableFault;
 pub use laws::changes_keep;
 pub use plain::Plain;
 pub use tables::Tables;
-
-#[cfg(test)]
-mod tests;

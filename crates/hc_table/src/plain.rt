@@ -232,11 +232,13 @@ impl Tables for Plain {
         Ok(())
     }
 
-    ghost use Rattle.hc_table.specs.Laws.{came-refl, came-before, came-after};
+    ghost use Rattle.hc_table.specs.Laws.{came-refl, came-before, came-after, world-after};
 
     ghost nothing_done = { came-refl };
 
     ghost nothing_before = { came-before };
 
     ghost nothing_after = { came-after };
+
+    ghost world_after = { world-after };
 }

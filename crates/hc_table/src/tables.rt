@@ -1,6 +1,6 @@
 ghost use Rattle.std.specs.Prelude.{◌≡◌, ◌↔◌, ℕ, ◌<◌, ◌≤◌, true, false, None, Some, length, slice_get, IfOk, OnOk, OnErr, IsErrOf};
 ghost use Rattle.hc_table.specs.Attributes.{IsProper};
-ghost use Rattle.hc_table.specs.Changes.{Did, Nothing, Moved, Created, Added, Wrote, Reconfigured, Removed, Linked, Locked, Restricted, IsThere, name_at, kind_at, reaches, with_property, with_removed, with_proto, with_lock, with_integrity};
+ghost use Rattle.hc_table.specs.Changes.{Did, Nothing, Moved, Created, Added, Wrote, Reconfigured, Removed, Linked, Locked, Restricted, IsThere, after, name_at, kind_at, reaches, with_property, with_removed, with_proto, with_lock, with_integrity};
 ghost use Rattle.hc_table.specs.Ranges.{IsHeldInRange};
 ghost use Rattle.hc_table.specs.World.{World, IsWorld, object, props_at, place_of, with_object, with_added, with_written};
 ghost use Rattle.hc_value.specs.Prop.{kind_of};
@@ -173,4 +173,7 @@ pub trait Tables {
 
     /// What is done before nothing is done to the end.
     ghost nothing_after: { (a b c : Self) (did : Did) → came a did b → came b Nothing c → came a did c };
+
+    /// What was done tells the world after it: nothing, and moves, leave it as it was.
+    ghost world_after: { (a b : Self) (did : Did) → came a did b → world b ≡ after did (world a) };
 }

@@ -1,5 +1,5 @@
 -- A new child: the map as it is before it is opened, the gate that opens it, and the live child of a key.
-use Rattle.std.proofs.Common.{◌≡◌, ℕ, ◌+◌, ◌<◌, ◌≤◌, ◌≢◌, Bool, false, Option, Some, None, List, [], ◌∷◌, ◌++◌, append_assoc, refl, sym, ap, ◌∙◌, subst, arith, below_more, IsSome}
+use Rattle.std.proofs.Common.{◌≡◌, ℕ, ◌+◌, ◌<◌, ◌≤◌, ◌≢◌, Bool, false, Option, Some, None, List, [], ◌∷◌, ◌++◌, append_assoc, refl, sym, ap, ◌∙◌, subst, arith, below_more, IsSome, is_some}
 use Rattle.std.proofs.Math.Nat.{le_trans, lt_of_not-le}
 use Rattle.std.specs.Prelude.{IsSomeAnd, All}
 use Rattle.hc_layout.specs.declared.shape.Shape.{Shape}
@@ -8,23 +8,26 @@ use Rattle.hc_layout.specs.declared.words.GateWord.{GateWord}
 use Rattle.hc_layout.specs.declared.words.MapBits.{MapBits}
 use Rattle.hc_layout.specs.declared.words.RootWord.{RootWord}
 use Rattle.hc_value.specs.declared.key.Key.{Key}
+use Rattle.hc_value.specs.declared.prop.Kind.TheVariants.{AccessorProp}
 use Rattle.hc_value.specs.declared.field.Detail.{Detail}
 use Rattle.hc_heap.specs.Writes.{Write, Trail, Parent, Prototype, Base, Array, EntryKey, Reference, Owner, FieldDetail}
 use Rattle.hc_heap.specs.Readings.{gate_in, parent_in, prototype_in, bits_in, owner_in, detail_in, root_in}
 use Rattle.hc_heap.specs.declared.kind.Kind.TheVariants.{GateOfMap}
 use Rattle.hc_heap.specs.Lawful.{Lawful, LawfulPrototype}
-use Rattle.hc_heap.specs.States.{View, IsHeap, with_items}
+use Rattle.hc_heap.specs.States.{View, AreArraysThere, IsHeap, with_items}
 use Rattle.hc_heap.specs.Kept.{Adds, GoesOn, UnusedSaysNothing, GatesAreOpen, FormsHold}
 use Rattle.hc_heap.specs.Frames.{same-after, adds-one, adds-on, adds-wider}
-use Rattle.hc_descs.specs.Entries.{key_at, field_at, count_of, entries_in, LacksName}
-use Rattle.hc_descs.specs.Copies.{FillsArray, HasEntriesOf, IsEntry}
+use Rattle.hc_descs.specs.Entries.{AreFree, key_at, field_at, count_of, entries_in, LacksName}
+use Rattle.hc_descs.specs.Copies.{FillsArray, HasArray, HasOwnArray, HasEntriesOf, IsEntry}
 use Rattle.hc_links.specs.Chains.{links_in}
 use Rattle.hc_links.specs.Laws.{LinksAreChained}
 use Rattle.hc_tree.specs.Kept.{MapsStay, MapsAreKept}
-use Rattle.hc_tree.specs.Tree.{gate_with, tagged_field, IsProperKey, IsDeadFor, IsSoundMap, IsTree}
+use Rattle.hc_tree.specs.Tree.{gate_with, tagged_field, AreTagged, IsProperKey, IsDeadFor, IsSoundMap, IsTree}
 use Rattle.hc_tree.specs.Growth.{MayGrow, MakesMap, IsReadyChild}
 use Rattle.hc_tree.specs.Copying.{with_field}
-use Rattle.hc_tree.proofs.Keeping.{SameLives, tree-kept, dead-all}
+use Rattle.hc_tree.proofs.Arrays.{filled-array, own-has, plain-field, plain-same}
+use Rattle.hc_tree.proofs.Filled.{array-wider}
+use Rattle.hc_tree.proofs.Keeping.{SameLives, array-kept, tree-kept, dead-all}
 use Rattle.hc_tree.proofs.Fresh.{IsNewMap, no-links, self}
 
 -- what an array's writes leave as it was
@@ -69,14 +72,16 @@ and-is P (Some w) v h e = let same : w ≡ v = cc in subst P same h
 and-is P None v h e = absurd h
 
 -- the trail after a child got its field, its parent and its prototype
-abbrev pub begun : Trail → ℕ → ℕ → ℕ → Option ℕ → Trail
-begun t m c f p = Prototype c p ∷ Parent c (Some m) ∷ FieldDetail f tagged_field ∷ Owner f c ∷ t
+abbrev pub begun : Trail → ℕ → ℕ → ℕ → Option ℕ → Detail → Trail
+begun t m c f p d = Prototype c p ∷ Parent c (Some m) ∷ FieldDetail f d ∷ Owner f c ∷ t
 
 -- a child was begun, and its array was filled
-pub record IsFilledChild (s : Shape) (old new : Trail) (m c n f first : ℕ) (p : Option ℕ) (key : Key) : Type 0 where
+pub record IsFilledChild (s : Shape) (old new : Trail) (m c n f first : ℕ) (p : Option ℕ) (key : Key) (d : Detail) : Type 0 where
   pub lawful : Lawful s old
   pub after : Lawful s new
-  pub filled : Adds (FillsArray c first) (begun old m c f p) new
+  pub filled : Adds (FillsArray c first) (begun old m c f p d) new
+  pub arrays : AreArraysThere first old
+  pub array : HasArray new c (n + 1)
   pub tree : IsTree old
   pub fresh : IsNewMap old c
   pub is_open : gate_in old m ≡ Some (gate_with n false)
@@ -87,11 +92,13 @@ pub record IsFilledChild (s : Shape) (old new : Trail) (m c n f first : ℕ) (p 
   pub entries : HasEntriesOf new c m n
   pub last : IsEntry new c n key f
   pub proper : IsProperKey key
+  pub accessor : key.kind ≡ AccessorProp → d ≡ tagged_field
+  pub plain : d ≡ tagged_field
   pub lacks : LacksName old m n key.name
 
-module _ (s : Shape) (old new : Trail) (m c n f first : ℕ) (p : Option ℕ) (key : Key) (law : MapsAreKept) (h : IsFilledChild s old new m c n f first p key) where
+module _ (s : Shape) (old new : Trail) (m c n f first : ℕ) (p : Option ℕ) (key : Key) (d : Detail) (law : MapsAreKept) (h : IsFilledChild s old new m c n f first p key d) where
   four : List Write
-  four = Prototype c p ∷ Parent c (Some m) ∷ FieldDetail f tagged_field ∷ Owner f c ∷ []
+  four = Prototype c p ∷ Parent c (Some m) ∷ FieldDetail f d ∷ Owner f c ∷ []
 
   goes : GoesOn s old new
   unfolding four
@@ -100,8 +107,8 @@ module _ (s : Shape) (old new : Trail) (m c n f first : ℕ) (p : Option ℕ) (k
   pub child-kept-all : MapsStay old new
   child-kept-all = law s old new h.lawful goes
 
-  rest : (x : ℕ) → rest_of new x ≡ rest_of (begun old m c f p) x
-  rest x = rest-same c first x (begun old m c f p) new h.filled
+  rest : (x : ℕ) → rest_of new x ≡ rest_of (begun old m c f p d) x
+  rest x = rest-same c first x (begun old m c f p d) new h.filled
 
   lives : SameLives old new
   unfolding rest_of
@@ -119,8 +126,21 @@ module _ (s : Shape) (old new : Trail) (m c n f first : ℕ) (p : Option ℕ) (k
   unfolding rest_of
   roots o = ap (λ (r : Rest). r.root.map) (rest o)
 
+  arrays : (x : ℕ) (k : GateWord) → gate_in old x ≡ Some k → HasArray old x k.entries → HasArray new x k.entries
+  arrays x k e a =
+      let apart : c ≡ x → ⊥ = λ is. no-gate k (gate_in old c) h.fresh.gate (ap (gate_in old) is ∙ e) in
+      filled-array c first f x apart (begun old m c f p d) new k.entries (adds-wider (array-wider c first f) h.filled) h.arrays
+      (array-kept old (begun old m c f p d) x k.entries refl refl (λ y. refl) (λ y. refl) a)
+    where
+      no-gate : (k : GateWord) (o : Option GateWord) → o ≡ None → o ≡ Some k → ⊥
+      no-gate k o a b = cc
+
+  plain : AreTagged new
+  unfolding rest_of
+  plain = plain-same (begun old m c f p d) new (λ x. ap (λ (r : Rest). r.detail) (rest x)) (plain-field old f c d h.tree.plain h.plain)
+
   pub filled-tree : IsTree new
-  filled-tree = tree-kept old new child-kept-all lives links gates roots h.tree
+  filled-tree = tree-kept old new child-kept-all lives links gates roots arrays plain h.tree
 
   abbrev g : GateWord
   g = gate_with n false
@@ -147,14 +167,17 @@ module _ (s : Shape) (old new : Trail) (m c n f first : ℕ) (p : Option ℕ) (k
       (λ k lt a e. sound.proper k a lt (old-key k a lt e))
       (λ a e. subst IsProperKey (some-is key a (key_at new c n) h.last.key e) h.proper)
 
-  detail : detail_in new f ≡ Some tagged_field
+  pub filled-detail : detail_in new f ≡ Some d
   unfolding rest_of
-  detail = ap (λ (r : Rest). r.detail) (rest f) ∙ self f (Some tagged_field) (detail_in (Owner f c ∷ old) f)
+  filled-detail = ap (λ (r : Rest). r.detail) (rest f) ∙ self f (Some d) (detail_in (Owner f c ∷ old) f)
 
-  tagged-all : (k : ℕ) → k < n + 1 → (x : ℕ) → field_at new c k ≡ Some x → detail_in new x ≡ Some tagged_field
-  tagged-all = below_more (λ (k : ℕ). (x : ℕ) → field_at new c k ≡ Some x → detail_in new x ≡ Some tagged_field) n
-      (λ k lt x e. child-kept-all.tagged x (sound.tagged k x lt (old-field k x lt e)))
-      (λ x e. subst (λ (y : ℕ). detail_in new y ≡ Some tagged_field) (some-is f x (field_at new c n) h.last.field e) detail)
+  tagged-all : (k : ℕ) → k < n + 1 → (x : ℕ) (a : Key) → key_at new c k ≡ Some a → a.kind ≡ AccessorProp → field_at new c k ≡ Some x → detail_in new x ≡ Some tagged_field
+  tagged-all = below_more (λ (k : ℕ). (x : ℕ) (a : Key) → key_at new c k ≡ Some a → a.kind ≡ AccessorProp → field_at new c k ≡ Some x → detail_in new x ≡ Some tagged_field) n
+      (λ k lt x a is kind e. child-kept-all.tagged x (sound.tagged k x a lt (old-key k a lt is) kind (old-field k x lt e)))
+      (λ x a is kind e.
+      let same : key ≡ a = some-is key a (key_at new c n) h.last.key is in
+      let admits : d ≡ tagged_field = h.accessor (subst (λ (y : Key). y.kind ≡ AccessorProp) (sym same) kind) in
+      subst (λ (y : ℕ). detail_in new y ≡ Some tagged_field) (some-is f x (field_at new c n) h.last.field e) (filled-detail ∙ ap (λ (y : Detail). Some y) admits))
 
   parent : parent_in new c ≡ Some (Some m)
   unfolding rest_of
@@ -176,7 +199,8 @@ module _ (s : Shape) (old new : Trail) (m c n f first : ℕ) (p : Option ℕ) (k
       unlinked = links c ∙ no-links chains s old c h.lawful h.fresh.head;
       distinct = λ i j ij jn a b ia jb. differs j jn i ij a b ia jb;
       proper = λ k a lt e. proper-all k lt a e;
-      tagged = λ k x lt e. tagged-all k lt x e;
+      tagged = λ k x a lt is kind e. tagged-all k lt x a is kind e;
+      array = h.array;
     };
     is_open = child-kept-all.written.gate m g h.is_open;
     younger = h.younger;
@@ -186,6 +210,7 @@ module _ (s : Shape) (old new : Trail) (m c n f first : ℕ) (p : Option ℕ) (k
     last = h.last.key;
     field = h.last.field;
     owner = owner;
+    described = ap is_some filled-detail;
     live = lives m ∙ h.live;
     young = lives c ∙ ap (λ (b : MapBits). b.deprecated) h.fresh.bits;
     dead = subst (λ (ls : List ℕ). All (IsDeadFor new (Some key)) ls) (sym (links m)) (dead-all old new child-kept-all lives m g key (links_in old m) sound.links h.dead);
@@ -234,11 +259,13 @@ proto-lawful v t m c (Some o) forms is none same = record { unwritten = none; th
 proto-lawful v t m c None forms is none same = record { unwritten = none; there = tt; marked = tt }
 
 -- a child that was begun is filled
-pub filled-child : (v v4 v5 : View) (m c n f : ℕ) (p : Option ℕ) (key : Key) → v4 ≡ record v { trail = begun v.trail m c f p; used = v4.used } → IsHeap v → IsHeap v5 → v5.shape ≡ v4.shape
+pub filled-child : (v v4 v5 : View) (m c n f : ℕ) (p : Option ℕ) (key : Key) (d : Detail) → v4 ≡ record v { trail = begun v.trail m c f p d; used = v4.used } → v4.used.entries ≡ v.used.entries → IsHeap v → IsHeap v5 → v5.shape ≡ v4.shape
     → Adds (FillsArray c v4.used.entries) v4.trail v5.trail → HasEntriesOf v5.trail c m (count_of v4.trail m) → IsEntry v5.trail c (count_of v4.trail m) key f
+    → HasOwnArray v5.trail c (count_of v4.trail m + 1) v4.used.entries → AreFree v5.trail (v4.used.entries + (count_of v4.trail m + 1))
     → IsTree v.trail → IsNewMap v.trail c → gate_in v.trail m ≡ Some (gate_with n false) → gate_in v4.trail m ≡ Some (gate_with n false) → prototype_in v.trail m ≡ Some p → m < c → (bits_in v.trail m).deprecated ≡ false
-    → All (IsDeadFor v.trail (Some key)) (links_in v.trail m) → IsProperKey key → LacksName v.trail m n key.name → IsFilledChild v.shape v.trail v5.trail m c n f v4.used.entries p key
-filled-child v v4 v5 m c n f p key e h h5 shape writes entries last tree fresh gate gate4 proto younger live dead proper lacks =
+    → All (IsDeadFor v.trail (Some key)) (links_in v.trail m) → IsProperKey key → (key.kind ≡ AccessorProp → d ≡ tagged_field) → d ≡ tagged_field → LacksName v.trail m n key.name
+    → IsFilledChild v.shape v.trail v5.trail m c n f v4.used.entries p key d
+filled-child v v4 v5 m c n f p key d e counts h h5 shape writes entries last own spare tree fresh gate gate4 proto younger live dead proper accessor plain lacks =
     let count : count_of v4.trail m ≡ n = ap entries_in gate4 in
     record {
       lawful = h.lawful;
@@ -254,7 +281,11 @@ filled-child v v4 v5 m c n f p key e h h5 shape writes entries last tree fresh g
       entries = subst (λ (x : ℕ). HasEntriesOf v5.trail c m x) count entries;
       last = subst (λ (x : ℕ). IsEntry v5.trail c x key f) count last;
       proper = proper;
+      accessor = accessor;
+      plain = plain;
       lacks = lacks;
+      arrays = subst (λ (x : ℕ). AreArraysThere x v.trail) (sym counts) h.arrays;
+      array = own-has v5.trail c (n + 1) v4.used.entries (omega arith) (subst (λ (x : ℕ). HasOwnArray v5.trail c (x + 1) v4.used.entries) count own) (subst (λ (x : ℕ). AreFree v5.trail (v4.used.entries + (x + 1))) count spare);
     }
 
 -- all its writes make a new map
@@ -265,17 +296,17 @@ fills-wider used m c first above there t (Base x b) h = subst (λ (y : ℕ). use
 fills-wider used m c first above there t (Array x a) h = subst (λ (y : ℕ). used.maps ≤ y) (sym h) above
 fills-wider used m c first above there t _ h = absurd h
 
-begun-writes : (used : Shape) (t : Trail) (m c f : ℕ) (p : Option ℕ) → used.maps ≤ c → used.fields ≤ f → Adds (MakesMap used (Some m)) t (begun t m c f p)
-begun-writes used t m c f p above there =
+begun-writes : (used : Shape) (t : Trail) (m c f : ℕ) (p : Option ℕ) (d : Detail) → used.maps ≤ c → used.fields ≤ f → Adds (MakesMap used (Some m)) t (begun t m c f p d)
+begun-writes used t m c f p d above there =
     adds-on (adds-on (adds-on
     (adds-one t (Owner f c) there)
-    (adds-one (Owner f c ∷ t) (FieldDetail f tagged_field) there))
-    (adds-one (FieldDetail f tagged_field ∷ Owner f c ∷ t) (Parent c (Some m)) above))
-    (adds-one (Parent c (Some m) ∷ FieldDetail f tagged_field ∷ Owner f c ∷ t) (Prototype c p) above)
+    (adds-one (Owner f c ∷ t) (FieldDetail f d) there))
+    (adds-one (FieldDetail f d ∷ Owner f c ∷ t) (Parent c (Some m)) above))
+    (adds-one (Parent c (Some m) ∷ FieldDetail f d ∷ Owner f c ∷ t) (Prototype c p) above)
 
-pub filled-writes : (s : Shape) (used : Shape) (old new : Trail) (m c n f first : ℕ) (p : Option ℕ) (key : Key) → IsFilledChild s old new m c n f first p key → used.maps ≤ c → used.fields ≤ f → used.entries ≤ first → Adds (MakesMap used (Some m)) old new
-filled-writes s used old new m c n f first p key h a b d = adds-on (begun-writes used old m c f p a b) (adds-wider (fills-wider used m c first a d) h.filled)
+pub filled-writes : (s : Shape) (used : Shape) (old new : Trail) (m c n f first : ℕ) (p : Option ℕ) (key : Key) (d : Detail) → IsFilledChild s old new m c n f first p key d → used.maps ≤ c → used.fields ≤ f → used.entries ≤ first → Adds (MakesMap used (Some m)) old new
+filled-writes s used old new m c n f first p key d h a b e = adds-on (begun-writes used old m c f p d a b) (adds-wider (fills-wider used m c first a e) h.filled)
 
-pub filled-bits : (s : Shape) (old new : Trail) (m c n f first : ℕ) (p : Option ℕ) (key : Key) → IsFilledChild s old new m c n f first p key → (x : ℕ) → bits_in new x ≡ bits_in old x
+pub filled-bits : (s : Shape) (old new : Trail) (m c n f first : ℕ) (p : Option ℕ) (key : Key) (d : Detail) → IsFilledChild s old new m c n f first p key d → (x : ℕ) → bits_in new x ≡ bits_in old x
 unfolding rest_of
-filled-bits s old new m c n f first p key h x = ap (λ (r : Rest). r.bits) (rest-same c first x (begun old m c f p) new h.filled)
+filled-bits s old new m c n f first p key d h x = ap (λ (r : Rest). r.bits) (rest-same c first x (begun old m c f p d) new h.filled)

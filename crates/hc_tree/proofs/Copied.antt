@@ -13,30 +13,15 @@ use Rattle.hc_heap.specs.Readings.{parent_in, prototype_in, base_in}
 use Rattle.hc_heap.specs.Lawful.{Lawful, IsClassThere, LawfulDetail, LawfulGate, HaveEntries, RisesTo}
 use Rattle.hc_heap.specs.Kept.{GoesOn}
 use Rattle.hc_heap.specs.States.{View, IsHeap}
+use Rattle.hc_descs.specs.Copies.{HasArray}
 use Rattle.hc_links.specs.Laws.{LinksAreChained}
 use Rattle.hc_tree.specs.Kept.{MapsAreKept}
-use Rattle.hc_tree.specs.Tree.{gate_with, HaveDistinctNames, HaveProperKeys, HaveTaggedFields, IsTree}
+use Rattle.hc_tree.specs.Tree.{gate_with, HaveDistinctNames, HaveProperKeys, HaveTaggedAccessors, IsTree}
 use Rattle.hc_tree.specs.Copying.{IsClosed, with_closed}
-use Rattle.hc_tree.proofs.Keeping.{tree-kept, goes-by}
+use Rattle.hc_tree.proofs.Keeping.{array-kept, tree-kept, goes-by}
 use Rattle.hc_tree.specs.Growth.{IsReady}
 use Rattle.hc_tree.proofs.Growing.{alone-sound, open-tree}
-use Rattle.hc_tree.proofs.Fresh.{IsNewField, IsNewMap, no-links, before, self}
-
--- a map that was handed out is one of the board's
-pub map-in-range : (v : View) (m : ℕ) → IsHeap v → m < v.used.maps → m < v.shape.maps
-map-in-range v m h lt = let most = h.most Maps in omega arith
-
-class-after : (s : Shape) (t : Trail) (f m : ℕ) (c : Class) → IsClassThere s t c → IsClassThere s (Owner f m ∷ t) c
-class-after s t f m (Of x) h = h
-class-after s t f m Any h = tt
-
--- the detail of a new field
-pub new-detail : (s : Shape) (t : Trail) (f m : ℕ) (d : Detail) → IsNewField t f → IsClassInRange d.class → IsClassThere s t d.class → LawfulDetail s (Owner f m ∷ t) f d
-new-detail s t f m d new form there = record {
-  form = form;
-  there = class-after s t f m d.class there;
-  rises = subst (λ (o : Option Detail). IfSome o (λ e. RisesTo e d)) (sym new.detail) tt;
-}
+use Rattle.hc_tree.proofs.Fresh.{IsNewMap, no-links, before, self}
 
 abbrev no_parent : Option (Option ℕ)
 no_parent = Some None
@@ -56,7 +41,7 @@ closed-tree law s t p c lawful tree =
     let new : Trail = with_closed t p c in
     let l0 : Lawful s t = before s t (Parent c None) (before s (Parent c None ∷ t) (Prototype c p) lawful) in
     let goes : GoesOn s t new = record { more = Prototype c p ∷ Parent c None ∷ []; is = refl; lawful = lawful } in
-    tree-kept t new (law s t new l0 goes) (λ x. refl) (λ x. refl) (λ x. refl) (λ o. refl) tree
+    tree-kept t new (law s t new l0 goes) (λ x. refl) (λ x. refl) (λ x. refl) (λ o. refl) (λ m g e a. array-kept t new m g.entries refl refl (λ x. refl) (λ x. refl) a) tree.plain tree
 
 -- the gate of a map that has its entries
 pub private-gate : (s : Shape) (t : Trail) (c n : ℕ) → IsClosed t c → n ≤ MAX_FAST → HaveEntries t (base_in t c) n → LawfulGate s t c (gate_with n true)
@@ -69,9 +54,9 @@ private-gate s t c n closed few entries = record {
 }
 
 -- the tree stays sound with a private map that is opened
-pub private-tree : MapsAreKept → (s : Shape) (t : Trail) (c n : ℕ) → Lawful s (Gate c (gate_with n true) ∷ t) → IsClosed t c → HaveDistinctNames t c n → HaveProperKeys t c n → HaveTaggedFields t c n → IsTree t → IsTree (Gate c (gate_with n true) ∷ t)
-private-tree law s t c n lawful closed distinct proper tagged tree =
+pub private-tree : MapsAreKept → (s : Shape) (t : Trail) (c n : ℕ) → Lawful s (Gate c (gate_with n true) ∷ t) → IsClosed t c → HaveDistinctNames t c n → HaveProperKeys t c n → HaveTaggedAccessors t c n → HasArray t c n → IsTree t → IsTree (Gate c (gate_with n true) ∷ t)
+private-tree law s t c n lawful closed distinct proper tagged array tree =
     let g : GateWord = gate_with n true in
     let kept = law s t (Gate c g ∷ t) (before s t (Gate c g) lawful) (goes-by s t (Gate c g) lawful) in
-    let ready : IsReady t c n = record { unwritten = closed.gate; unlinked = closed.links; distinct = distinct; proper = proper; tagged = tagged } in
+    let ready : IsReady t c n = record { unwritten = closed.gate; unlinked = closed.links; distinct = distinct; proper = proper; tagged = tagged; array = array } in
     open-tree t c g kept (alone-sound t c n true ready closed.parent (λ shared. absurd (true≢false shared))) tree

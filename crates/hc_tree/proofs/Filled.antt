@@ -33,7 +33,7 @@ some-entries o n h lt = and-then (λ (g : GateWord). g.entries ≡ n) (λ (g : G
 
 -- the writes of a new array, and those of new fields, fill a new map
 
-array-wider : (c e f : ℕ) (t : Trail) (w : Write) → FillsArray c e t w → FillsCopy c e f t w
+pub array-wider : (c e f : ℕ) (t : Trail) (w : Write) → FillsArray c e t w → FillsCopy c e f t w
 array-wider c e f t (EntryKey x key) h = h
 array-wider c e f t (Reference x y) h = h
 array-wider c e f t (Base m b) h = h

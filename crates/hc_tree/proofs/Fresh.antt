@@ -1,12 +1,12 @@
--- Maps and fields that were just handed out, and the tree with a new root.
+-- Maps that were just handed out, and the tree with a new root.
 use Rattle.std.proofs.Common.{◌≡◌, ℕ, ◌<◌, ◌≤◌, Bool, false, cond, Option, Some, None, List, [], ◌∷◌, refl, ap, arith, eqb, eq-eqb, IfSome, is_some}
 use Rattle.std.specs.Prelude.{IsTrue}
 use Rattle.hc_layout.specs.declared.shape.Region.TheVariants.{Maps, Entries, Fields, Links, Objects, Slots}
 use Rattle.hc_layout.specs.declared.shape.Shape.{Shape}
 use Rattle.hc_layout.specs.declared.words.RootWord.{RootWord}
-use Rattle.hc_heap.specs.declared.kind.Kind.TheVariants.{GateOfMap, ParentOfMap, PrototypeOfMap, BitsOfMap, HeadOfMap, OwnerOfField, DetailOfField}
+use Rattle.hc_heap.specs.declared.kind.Kind.TheVariants.{GateOfMap, ParentOfMap, PrototypeOfMap, BitsOfMap, ArrayOfMap, HeadOfMap}
 use Rattle.hc_heap.specs.Writes.{Trail, Write, Gate, Parent, Prototype, Root}
-use Rattle.hc_heap.specs.Readings.{no_bits, gate_in, parent_in, prototype_in, bits_in, root_in, head_in, owner_in, detail_in}
+use Rattle.hc_heap.specs.Readings.{no_bits, no_array, gate_in, parent_in, prototype_in, bits_in, array_in, root_in, head_in}
 use Rattle.hc_heap.specs.Lawful.{Lawful, AllWithin, LawfulGate}
 use Rattle.hc_heap.specs.States.{View, IsHeap}
 use Rattle.hc_heap.specs.Kept.{GoesOn, UnusedSaysNothing}
@@ -16,7 +16,8 @@ use Rattle.hc_tree.specs.Kept.{MapsAreKept}
 use Rattle.hc_tree.specs.Tree.{gate_with, IsBare, IsTree, IsRoot}
 use Rattle.hc_tree.specs.Growth.{IsReady, MayBePrototype, root_need, with_root}
 use Rattle.hc_tree.specs.Needs.{HasSpace}
-use Rattle.hc_tree.proofs.Keeping.{tree-kept, goes-by, root-kept}
+use Rattle.hc_tree.proofs.Keeping.{array-kept, tree-kept, goes-by, root-kept}
+use Rattle.hc_tree.proofs.Arrays.{no-has}
 use Rattle.hc_tree.proofs.Growing.{alone-sound, open-tree}
 
 -- nothing was said of a map
@@ -26,6 +27,7 @@ pub record IsNewMap (t : Trail) (m : ℕ) : Type 0 where
   pub prototype : prototype_in t m ≡ None
   pub bits : bits_in t m ≡ no_bits
   pub head : head_in t m ≡ None
+  pub array : array_in t m ≡ no_array
 
 pub new-map : UnusedSaysNothing → (used : Shape) (t : Trail) (m : ℕ) → AllWithin used t → used.maps ≤ m → IsNewMap t m
 new-map law used t m h lt = record {
@@ -34,15 +36,8 @@ new-map law used t m h lt = record {
   prototype = law used t PrototypeOfMap m h lt;
   bits = law used t BitsOfMap m h lt;
   head = law used t HeadOfMap m h lt;
+  array = law used t ArrayOfMap m h lt;
 }
-
--- nothing was said of a field
-pub record IsNewField (t : Trail) (f : ℕ) : Type 0 where
-  pub owner : owner_in t f ≡ None
-  pub detail : detail_in t f ≡ None
-
-pub new-field : UnusedSaysNothing → (used : Shape) (t : Trail) (f : ℕ) → AllWithin used t → used.fields ≤ f → IsNewField t f
-new-field law used t f h lt = record { owner = law used t OwnerOfField f h lt; detail = law used t DetailOfField f h lt }
 
 no-chain : (t : Trail) (h : Option ℕ) (ls : List ℕ) → AreChained t h ls → h ≡ None → ls ≡ []
 no-chain t None [] c e = refl
@@ -67,13 +62,14 @@ root-tree law chains s t p r lawful new tree =
     let l2 : Lawful s t2 = before s t2 (Gate r (gate_with 0 false)) lawful in
     let l0 : Lawful s t = before s t (Parent r None) (before s (Parent r None ∷ t) (Prototype r p) l2) in
     let goes : GoesOn s t t2 = record { more = Prototype r p ∷ Parent r None ∷ []; is = refl; lawful = l2 } in
-    let tree2 = tree-kept t t2 (law s t t2 l0 goes) (λ x. refl) (λ x. refl) (λ x. refl) (λ o. refl) tree in
+    let tree2 = tree-kept t t2 (law s t t2 l0 goes) (λ x. refl) (λ x. refl) (λ x. refl) (λ o. refl) (λ m g e a. array-kept t t2 m g.entries refl refl (λ x. refl) (λ x. refl) a) tree.plain tree in
     let ready : IsReady t2 r 0 = record {
       unwritten = new.gate;
       unlinked = no-links chains s t r l0 new.head;
       distinct = λ i j ij jn. absurd (omega arith);
       proper = λ k key lt. absurd (omega arith);
-      tagged = λ k f lt. absurd (omega arith);
+      tagged = λ k f key lt. absurd (omega arith);
+      array = no-has t2 r 0 refl new.array;
     } in
     let parent : parent_in t2 r ≡ Some None = self r (Some None) (parent_in t r) in
     let bare : IsBare t2 r (gate_with 0 false) = record { entries = refl; live = ap (λ b. b.deprecated) new.bits } in

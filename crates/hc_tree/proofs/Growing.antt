@@ -10,7 +10,7 @@ use Rattle.hc_links.specs.Chains.{links_in, linked}
 use Rattle.hc_tree.specs.Kept.{MapsStay}
 use Rattle.hc_tree.specs.Tree.{gate_with, IsRoot, IsChildFor, IsSoundLink, IsDeadFor, HaveOneLive, IsLedTo, IsBare, IsSoundMap, IsTree}
 use Rattle.hc_tree.specs.Growth.{IsReady, IsReadyChild}
-use Rattle.hc_tree.proofs.Keeping.{SameLives, map-kept, links-kept, live-kept, dead-all, root-kept}
+use Rattle.hc_tree.proofs.Keeping.{SameLives, array-kept, map-kept, links-kept, live-kept, dead-all, root-kept}
 
 none-some : {T : Type 0} (v : T) → None ≡ Some v → ⊥
 none-some v e = cc
@@ -36,8 +36,10 @@ open-tree t c g kept here h =
           let sound = h.maps m k was in
           map-kept t new kept lives (λ x l there. there) m k was sound sound.unlinked
           (links-kept t new kept lives m k (links_in t m) was sound.links)
-          (live-kept t new kept lives m k (links_in t m) sound.links sound.live));
+          (live-kept t new kept lives m k (links_in t m) sound.links sound.live)
+          (array-kept t new m k.entries refl refl (λ x. refl) (λ x. refl) sound.array));
       roots = λ o r is. root-kept t new kept lives (Some o) r (h.roots o r is);
+      plain = h.plain;
     }
 
 -- a private map, or one without an entry, is sound when it is opened
@@ -46,6 +48,7 @@ alone-sound t c n private h parent bare = record {
   distinct = h.distinct;
   proper = h.proper;
   tagged = h.tagged;
+  array = array-kept t (Gate c (gate_with n private) ∷ t) c n refl refl (λ x. refl) (λ x. refl) h.array;
   unlocked = refl;
   alone = λ is. parent;
   unlinked = λ is. h.unlinked;
@@ -65,7 +68,9 @@ named-root t o r mark kept root h =
           let sound = h.maps m k e in
           map-kept t new kept lives (λ x l there. there) m k e sound sound.unlinked
           (links-kept t new kept lives m k (links_in t m) e sound.links)
-          (live-kept t new kept lives m k (links_in t m) sound.links sound.live);
+          (live-kept t new kept lives m k (links_in t m) sound.links sound.live)
+          (array-kept t new m k.entries refl refl (λ x. refl) (λ x. refl) sound.array);
+      plain = h.plain;
       roots = λ p q is. root-case t o r mark p q (eqb o p) refl is (root-kept t new kept lives (Some o) r root) (λ was. root-kept t new kept lives (Some p) q (h.roots p q was));
     }
   where
@@ -136,6 +141,7 @@ module _ (t : Trail) (m c n l f : ℕ) (key : Key) where
         distinct = h.ready.distinct;
         proper = h.ready.proper;
         tagged = h.ready.tagged;
+        array = array-kept t new c (n + 1) refl refl (λ x. refl) (λ x. refl) h.ready.array;
         unlocked = refl;
         alone = λ is. absurd (true≢false (sym is));
         unlinked = λ is. absurd (true≢false (sym is));
@@ -175,8 +181,10 @@ module _ (t : Trail) (m c n l f : ℕ) (key : Key) where
       (subst (λ (ls : List ℕ). HaveOneLive new ls) (sym head-links) (
         subst (λ (o : Option Key). All (IsDeadFor new o) (links_in t m)) (sym new-key) (dead-all t new kept lives m g key (links_in t m) sound.links h.dead),
         live-kept t new kept lives m g (links_in t m) sound.links sound.live,
-      )) in
+      ))
+      (array-kept t new m n refl refl (λ x. refl) (λ x. refl) sound.array) in
       record {
+        plain = tree.plain;
         maps = λ x k e. gate-case (IsSoundMap new) (gate_in t x) c x (gate_with (n + 1) false) k (eqb c x) refl e (child-sound h opened apart)
             (λ _ was. other-case x k was (tree.maps x k was) parent kept);
         roots = λ o r is. root-kept t new kept lives (Some o) r (tree.roots o r is);
@@ -192,6 +200,7 @@ module _ (t : Trail) (m c n l f : ℕ) (key : Key) where
           (λ private. other-links x other ∙ sound.unlinked private)
           (subst (λ (ls : List ℕ). All (IsSoundLink new x k) ls) (sym (other-links x other)) (links-kept t new kept lives x k (links_in t x) was sound.links))
           (subst (λ (ls : List ℕ). HaveOneLive new ls) (sym (other-links x other)) (live-kept t new kept lives x k (links_in t x) sound.links sound.live))
+          (array-kept t new x k.entries refl refl (λ y. refl) (λ y. refl) sound.array)
 
       other-case : (x : ℕ) (k : GateWord) → gate_in t x ≡ Some k → IsSoundMap t x k → IsSoundMap new m (gate_with n false) → MapsStay t new → IsSoundMap new x k
       other-case x k was sound parent kept = which (eqb m x) refl

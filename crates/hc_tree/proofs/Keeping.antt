@@ -1,7 +1,8 @@
 -- What is kept of the maps in a lawful trail that goes on.
-use Rattle.std.proofs.Common.{◌≡◌, ℕ, ◌+◌, ◌<◌, Bool, true, false, Option, Some, None, List, [], ◌∷◌, get_or, suc, refl, sym, ap, ◌∙◌, subst, arith, cond, eqb, eqb-true, IfSome, IsSome}
+use Rattle.std.proofs.Common.{◌≡◌, ℕ, ◌+◌, ◌<◌, ◌≤◌, Bool, true, false, Option, Some, None, List, [], ◌∷◌, get_or, suc, refl, sym, ap, ◌∙◌, subst, arith, cond, eqb, eqb-true, IfSome, IsSome}
 use Rattle.std.specs.Prelude.{IsTrue, IsSomeAnd, ◌&&◌, All, Contains}
 use Rattle.hc_layout.specs.declared.shape.Shape.{Shape}
+use Rattle.hc_layout.specs.declared.words.ArrayWord.{ArrayWord}
 use Rattle.hc_layout.specs.declared.words.GateWord.{GateWord}
 use Rattle.hc_layout.specs.declared.words.MapBits.{MapBits}
 use Rattle.hc_value.specs.Field.{is_within, is_constness_within, is_class_within}
@@ -14,14 +15,15 @@ use Rattle.hc_value.specs.declared.field.Class.{Class}
 use Rattle.hc_value.specs.declared.field.Class.TheVariants.{Of, Any}
 use Rattle.hc_value.specs.declared.field.Detail.{Detail}
 use Rattle.hc_heap.specs.Writes.{Trail, Write, Bits}
-use Rattle.hc_heap.specs.Readings.{gate_in, parent_in, prototype_in, bits_in, owner_in, detail_in, link_child_in, root_in}
+use Rattle.hc_heap.specs.Readings.{gate_in, parent_in, prototype_in, bits_in, base_in, array_in, entry_key_in, reference_in, owner_in, detail_in, link_child_in, root_in}
 use Rattle.hc_heap.specs.Lawful.{Lawful, RisesTo}
 use Rattle.hc_heap.specs.States.{View, IsHeap, with_write}
 use Rattle.hc_heap.specs.Kept.{GoesOn, WrittenIsKept, EntriesAreKept, EntriesStay, DetailsRise, GatesAreOpen}
 use Rattle.hc_descs.specs.Entries.{field_at}
+use Rattle.hc_descs.specs.Copies.{HasArray}
 use Rattle.hc_links.specs.Chains.{links_in}
 use Rattle.hc_tree.specs.Kept.{MapsStay, MapsAreKept}
-use Rattle.hc_tree.specs.Tree.{gate_with, tagged_field, IsRoot, IsChildFor, IsSoundLink, IsDeadFor, HaveOneLive, IsSoundMap, IsTree}
+use Rattle.hc_tree.specs.Tree.{gate_with, tagged_field, AreTagged, IsRoot, IsChildFor, IsSoundLink, IsDeadFor, HaveOneLive, IsSoundMap, IsTree}
 
 -- the laws of the heap that are used here
 pub record HeapLaws : Type 0 where
@@ -153,15 +155,16 @@ module _ (old new : Trail) (kept : MapsStay old new) (lives : SameLives old new)
       let dead = dead-all m g first.key ls rest (subst (λ (o : Option Key). All (IsDeadFor old o) ls) first.is_key live.0) in
       (subst (λ (o : Option Key). All (IsDeadFor new o) ls) (sym now) dead, live-kept m g ls rest live.1)
 
-  -- an open map stays sound, where its links are
+  -- an open map stays sound, where its links and its array are
   pub map-kept : ((x l : ℕ) → Contains (links_in old x) l → Contains (links_in new x) l) → (m : ℕ) (g : GateWord) → gate_in old m ≡ Some g → IsSoundMap old m g
-      → (IsTrue g.is_private → links_in new m ≡ []) → All (IsSoundLink new m g) (links_in new m) → HaveOneLive new (links_in new m) → IsSoundMap new m g
-  map-kept more m g e h unlinked links live =
+      → (IsTrue g.is_private → links_in new m ≡ []) → All (IsSoundLink new m g) (links_in new m) → HaveOneLive new (links_in new m) → HasArray new m g.entries → IsSoundMap new m g
+  map-kept more m g e h unlinked links live array =
       let whole = kept.opened m g e in
       record {
         distinct = λ i j ij jn a b ia jb. h.distinct i j ij jn a b (sym (kept.entry m i g e (omega arith)).key ∙ ia) (sym (kept.entry m j g e jn).key ∙ jb);
         proper = λ k key lt is. h.proper k key lt (sym (kept.entry m k g e lt).key ∙ is);
-        tagged = λ k f lt is. kept.tagged f (h.tagged k f lt (sym (kept.entry m k g e lt).field ∙ is));
+        tagged = λ k f key lt is kind at. kept.tagged f (h.tagged k f key lt (sym (kept.entry m k g e lt).key ∙ is) kind (sym (kept.entry m k g e lt).field ∙ at));
+        array = array;
         unlocked = h.unlocked;
         alone = λ private. kept.written.parent m None (h.alone private);
         unlinked = unlinked;
@@ -189,17 +192,28 @@ module _ (old new : Trail) (kept : MapsStay old new) (lives : SameLives old new)
   }
 
   -- the tree stays sound while no map is opened and no link is put in
-  pub tree-kept : ((x : ℕ) → links_in new x ≡ links_in old x) → ((x : ℕ) → gate_in new x ≡ gate_in old x) → ((o : ℕ) → (root_in new o).map ≡ (root_in old o).map) → IsTree old → IsTree new
-  tree-kept links gates roots h = record {
+  pub tree-kept : ((x : ℕ) → links_in new x ≡ links_in old x) → ((x : ℕ) → gate_in new x ≡ gate_in old x) → ((o : ℕ) → (root_in new o).map ≡ (root_in old o).map)
+      → ((m : ℕ) (g : GateWord) → gate_in old m ≡ Some g → HasArray old m g.entries → HasArray new m g.entries) → AreTagged new → IsTree old → IsTree new
+  tree-kept links gates roots arrays plain h = record {
     maps = λ m g e.
         let e' = sym (gates m) ∙ e in
         let sound = h.maps m g e' in
         map-kept (λ x l there. subst (λ (ls : List ℕ). Contains ls l) (sym (links x)) there) m g e' sound
         (λ private. links m ∙ sound.unlinked private)
         (subst (λ (ls : List ℕ). All (IsSoundLink new m g) ls) (sym (links m)) (links-kept m g (links_in old m) e' sound.links))
-        (subst (λ (ls : List ℕ). HaveOneLive new ls) (sym (links m)) (live-kept m g (links_in old m) sound.links sound.live));
+        (subst (λ (ls : List ℕ). HaveOneLive new ls) (sym (links m)) (live-kept m g (links_in old m) sound.links sound.live))
+        (arrays m g e' sound.array);
     roots = λ o r is. root-kept (Some o) r (h.roots o r (sym (roots o) ∙ is));
+    plain = plain;
   }
+
+-- a map has its array where the words of the array and of all entries are what they were
+pub array-kept : (old new : Trail) (m n : ℕ) → array_in new m ≡ array_in old m → base_in new m ≡ base_in old m → ((e : ℕ) → entry_key_in new e ≡ entry_key_in old e) → ((e : ℕ) → reference_in new e ≡ reference_in old e)
+    → HasArray old m n → HasArray new m n
+array-kept old new m n array base keys fields h = record {
+  array = array ∙ h.array;
+  spare = λ b k is le lt. (let free = h.spare b k (sym base ∙ is) le (subst (λ (a : ArrayWord). k < a.capacity) array lt) in record { key = keys (b + k) ∙ free.key; field = fields (b + k) ∙ free.field });
+}
 
 -- one write more
 pub goes-by : (s : Shape) (t : Trail) (w : Write) → Lawful s (w ∷ t) → GoesOn s t (w ∷ t)
@@ -213,7 +227,8 @@ lives-case b n x old false e same = refl
 -- the tree stays sound where a map becomes unstable
 pub bits-tree : (t : Trail) (m : ℕ) (b : MapBits) → MapsStay t (Bits m b ∷ t) → b.deprecated ≡ (bits_in t m).deprecated → IsTree t → IsTree (Bits m b ∷ t)
 bits-tree t m b kept same h =
-    tree-kept t (Bits m b ∷ t) kept (λ x. lives-case b m x (bits_in t x) (eqb m x) refl (λ e. subst (λ (y : ℕ). b.deprecated ≡ (bits_in t y).deprecated) (eqb-true m x e) same)) (λ x. refl) (λ x. refl) (λ o. refl) h
+    tree-kept t (Bits m b ∷ t) kept (λ x. lives-case b m x (bits_in t x) (eqb m x) refl (λ e. subst (λ (y : ℕ). b.deprecated ≡ (bits_in t y).deprecated) (eqb-true m x e) same)) (λ x. refl) (λ x. refl) (λ o. refl)
+    (λ n g e a. array-kept t (Bits m b ∷ t) n g.entries refl refl (λ x. refl) (λ x. refl) a) h.plain h
 
 pub bits-view : MapsAreKept → (old new : View) (m : ℕ) (b : MapBits) → new ≡ with_write old (Bits m b) → IsHeap old → IsHeap new → b.deprecated ≡ (bits_in old.trail m).deprecated → IsTree old.trail → IsTree new.trail
 bits-view law old new m b e before after same h =

@@ -1,4 +1,5 @@
 pub mod Keeping
+pub mod Arrays
 pub mod Growing
 pub mod Fresh
 pub mod Begun
@@ -7,4 +8,6 @@ pub mod Opened
 pub mod Made
 pub mod Filled
 pub mod Whole
-pub mod Chained
+pub mod Opening
+pub mod Walked
+pub mod Rooted

@@ -6,7 +6,7 @@ use Rattle.hc_layout.specs.declared.words.GateWord.{GateWord}
 use Rattle.hc_value.specs.declared.field.Detail.{Detail}
 use Rattle.hc_heap.specs.declared.kind.Kind.TheVariants.{ReferenceOfEntry, OwnerOfField}
 use Rattle.hc_heap.specs.Writes.{Trail, Write, Owner, FieldDetail}
-use Rattle.hc_heap.specs.Readings.{gate_in, reference_in, owner_in, detail_in}
+use Rattle.hc_heap.specs.Readings.{gate_in, array_in, reference_in, owner_in, detail_in}
 use Rattle.hc_heap.specs.Lawful.{IsField, field_from}
 use Rattle.hc_heap.specs.Kept.{Adds, GatesAreOpen, UnusedSaysNothing}
 use Rattle.hc_heap.specs.Frames.{adds-none, adds-one, adds-on, same-after}
@@ -63,6 +63,14 @@ gate-step first m t _ h = absurd h
 
 pub gate-same : (first m : ℕ) (old new : Trail) → Adds (MakesFields first) old new → gate_in new m ≡ gate_in old m
 gate-same first m old new h = same-after (λ (t : Trail). gate_in t m) (gate-step first m) h
+
+array-step : (first m : ℕ) (t : Trail) (w : Write) → MakesFields first t w → array_in (w ∷ t) m ≡ array_in t m
+array-step first m t (Owner f x) h = refl
+array-step first m t (FieldDetail f d) h = refl
+array-step first m t _ h = absurd h
+
+pub array-same : (first m : ℕ) (old new : Trail) → Adds (MakesFields first) old new → array_in new m ≡ array_in old m
+array-same first m old new h = same-after (λ (t : Trail). array_in t m) (array-step first m) h
 
 field-step : (first m k : ℕ) (t : Trail) (w : Write) → MakesFields first t w → field_at (w ∷ t) m k ≡ field_at t m k
 field-step first m k t (Owner f x) h = refl

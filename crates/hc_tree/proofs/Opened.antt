@@ -5,6 +5,7 @@ use Rattle.hc_layout.specs.declared.shape.Shape.{Shape}
 use Rattle.hc_layout.specs.declared.capacity.TheConstants.{MAX_FAST}
 use Rattle.hc_layout.specs.declared.shape.Region.TheVariants.{Maps, Entries, Fields, Links, Slots}
 use Rattle.hc_layout.specs.declared.words.GateWord.{GateWord}
+use Rattle.hc_value.specs.declared.field.Detail.{Detail}
 use Rattle.hc_value.specs.declared.key.Key.{Key}
 use Rattle.hc_heap.specs.Writes.{Trail, Gate, Bits, Head, LinkKey, LinkChild, LinkNext}
 use Rattle.hc_heap.specs.Readings.{gate_in, bits_in, head_in, owner_in, detail_in, link_key_in, link_child_in}
@@ -77,7 +78,7 @@ some-field t o n e h = subst (λ (x : Option ℕ). IsSomeAnd x (λ f. IsField t 
 pub child-gate : GatesAreOpen → (s : Shape) (t : Trail) (m c n f : ℕ) (key : Key) → Lawful s t → n < MAX_FAST → IsReadyChild t m c n f key → LawfulGate s t c (gate_with (n + 1) false)
 child-gate law s t m c n f key lawful few h =
     let whole : IsOpen t m (gate_with n false) = law s t m (gate_with n false) lawful h.is_open in
-    let field : IsField t f = record { owner = ap is_some h.owner; detail = ap is_some (h.ready.tagged n f (omega arith) h.field) } in
+    let field : IsField t f = record { owner = ap is_some h.owner; detail = h.described } in
     record {
       unwritten = h.ready.unwritten;
       parent = ap is_some h.parent;
@@ -122,10 +123,10 @@ linked-live law t m c n l f key h = ap (live_of new) found ∙ alive
     alive = ap (λ (b : Bool). cond b None (Some c)) h.young
 
 -- what the new child ends with
-pub child-ends : (t : Trail) (m c n l f : ℕ) (key : Key) → IsReadyChild t m c n f key → EndsWith (linked (Gate c (gate_with (n + 1) false) ∷ t) m l key c) c n key tagged_field
-child-ends t m c n l f key h = record {
+pub child-ends : (t : Trail) (m c n l f : ℕ) (key : Key) (d : Detail) → IsReadyChild t m c n f key → detail_in t f ≡ Some d → EndsWith (linked (Gate c (gate_with (n + 1) false) ∷ t) m l key c) c n key d
+child-ends t m c n l f key d h is = record {
   last = h.last;
-  field = subst (λ (o : Option ℕ). IsSomeAnd o (λ x. (owner_in t x ≡ Some c) × (detail_in t x ≡ Some tagged_field))) (sym h.field) (h.owner, h.ready.tagged n f (omega arith) h.field);
+  field = subst (λ (o : Option ℕ). IsSomeAnd o (λ x. (owner_in t x ≡ Some c) × (detail_in t x ≡ Some d))) (sym h.field) (h.owner, is);
 }
 
 pub linked-writes : (used : Shape) (t : Trail) (m c l : ℕ) (g : GateWord) (key : Key) → used.maps ≤ c → used.links ≤ l → Adds (MakesMap used (Some m)) t (linked (Gate c g ∷ t) m l key c)
@@ -197,14 +198,18 @@ pub live-child : SameKeysAreEqual → (t : Trail) (m : ℕ) (g : GateWord) (key 
 live-child law t m g key c tree gate e = newest-sound law t m g (links_in t m) key c (tree.maps m g gate).links (live-is t (child_of t m key) c e)
 
 -- a child ends with its key, and with a field that admits everything
-pub ends-with : (t : Trail) (m : ℕ) (g : GateWord) (key : Key) (c : ℕ) → IsTree t → IsChildFor t m g c key → EndsWith t c g.entries key tagged_field
-ends-with t m g key c tree h =
-    let sound = tree.maps c (gate_with (g.entries + 1) false) h.gate in
-    record { last = h.last; field = with-detail (field_at t c g.entries) refl h.field }
+pub ends-with : GatesAreOpen → (s : Shape) (t : Trail) (m : ℕ) (g : GateWord) (key : Key) (c : ℕ) → Lawful s t → IsTree t → IsChildFor t m g c key → EndsWith t c g.entries key tagged_field
+ends-with law s t m g key c lawful tree h =
+    let whole : IsOpen t c (gate_with (g.entries + 1) false) = law s t c (gate_with (g.entries + 1) false) lawful h.gate in
+    record { last = h.last; field = with-detail (field_at t c g.entries) (whole.entries.fields g.entries (omega arith)) h.field }
   where
-    with-detail : (o : Option ℕ) → field_at t c g.entries ≡ o → IsSomeAnd o (λ f. owner_in t f ≡ Some c) → IsSomeAnd o (λ f. (owner_in t f ≡ Some c) × (detail_in t f ≡ Some tagged_field))
-    with-detail (Some f) e owned = (owned, (tree.maps c (gate_with (g.entries + 1) false) h.gate).tagged g.entries f (omega arith) e)
-    with-detail None e owned = absurd owned
+    described : (o : Option Detail) → IsSome o → ((d : Detail) → o ≡ Some d → d ≡ tagged_field) → o ≡ Some tagged_field
+    described (Some d) some plain = ap (λ (x : Detail). Some x) (plain d refl)
+    described None some plain = let n : ⊥ = cc in absurd n
+
+    with-detail : (o : Option ℕ) → IsSomeAnd o (λ f. IsField t f) → IsSomeAnd o (λ f. owner_in t f ≡ Some c) → IsSomeAnd o (λ f. (owner_in t f ≡ Some c) × (detail_in t f ≡ Some tagged_field))
+    with-detail (Some f) made owned = (owned, described (detail_in t f) made.detail (tree.plain f))
+    with-detail None made owned = absurd owned
 
 -- the tree with the new child, and the child in it
 pub linked-tree : MapsAreKept → (s : Shape) (t : Trail) (m c n l f : ℕ) (key : Key) → Lawful s t → Lawful s (linked (Gate c (gate_with (n + 1) false) ∷ t) m l key c) → IsReadyChild t m c n f key → IsTree t
@@ -228,10 +233,10 @@ found-child law t m key c tree grows live =
     let gate = grow-gate (gate_in t m) grows in
     subst (λ (o : Option GateWord). IsSomeAnd o (λ g. IsChildFor t m g c key)) (sym gate) (live-child law t m (gate_with (count_of t m) false) key c tree gate live)
 
-pub found-ends : SameKeysAreEqual → (t : Trail) (m : ℕ) (key : Key) (c : ℕ) → IsTree t → IsSomeAnd (gate_in t m) MayGrow → live_child t m key ≡ Some c → EndsWith t c (count_of t m) key tagged_field
-found-ends law t m key c tree grows live =
+pub found-ends : SameKeysAreEqual → GatesAreOpen → (s : Shape) (t : Trail) (m : ℕ) (key : Key) (c : ℕ) → Lawful s t → IsTree t → IsSomeAnd (gate_in t m) MayGrow → live_child t m key ≡ Some c → EndsWith t c (count_of t m) key tagged_field
+found-ends law gates s t m key c lawful tree grows live =
     let g : GateWord = gate_with (count_of t m) false in
-    ends-with t m g key c tree (live-child law t m g key c tree (grow-gate (gate_in t m) grows) live)
+    ends-with gates s t m g key c lawful tree (live-child law t m g key c tree (grow-gate (gate_in t m) grows) live)
 
 pub found-dead : SameKeysAreEqual → (t : Trail) (m : ℕ) (key : Key) → IsTree t → IsSomeAnd (gate_in t m) MayGrow → live_child t m key ≡ None → All (IsDeadFor t (Some key)) (links_in t m)
 found-dead law t m key tree grows live =

@@ -3,23 +3,22 @@ use Rattle.std.specs.Prelude.{◌≡◌, ℕ, ◌+◌, ◌<◌, ◌≤◌, Bool,
 use Rattle.hc_layout.specs.Capacity.{cap_of}
 use Rattle.hc_layout.specs.declared.shape.Shape.{Shape}
 use Rattle.hc_value.specs.declared.key.Key.{Key}
+use Rattle.hc_value.specs.Field.{IsClassInRange}
 use Rattle.hc_value.specs.declared.field.Detail.{Detail}
+use Rattle.hc_value.specs.declared.prop.Kind.TheVariants.{AccessorProp}
 use Rattle.hc_heap.specs.Writes.{Write, Trail, Parent, Prototype, Base, Array, EntryKey, Reference, Owner, FieldDetail}
 use Rattle.hc_heap.specs.Readings.{gate_in, parent_in, prototype_in, owner_in, detail_in}
-use Rattle.hc_heap.specs.Lawful.{IsKey, IsField}
+use Rattle.hc_heap.specs.Lawful.{IsKey, IsField, IsClassThere}
 use Rattle.hc_tree.specs.declared.need.Need.{Need}
 use Rattle.hc_descs.specs.Entries.{key_at, field_at, count_of, LacksName}
+pub use Rattle.hc_fields.specs.Fields.{with_field}
 use Rattle.hc_descs.specs.Copies.{HasEntriesOf, HasKeysOf}
 use Rattle.hc_links.specs.Chains.{links_in}
-use Rattle.hc_tree.specs.Tree.{gate_with, tagged_field, HaveDistinctNames, HaveProperKeys, IsProperKey}
+use Rattle.hc_tree.specs.Tree.{gate_with, tagged_field, HaveDistinctNames, HaveProperKeys, HaveTaggedAccessors, IsProperKey}
 use Rattle.hc_tree.specs.Needs.{array_of}
 use Rattle.hc_tree.specs.Growth.{EndsWith}
 
 -- New fields
-
--- the trail after a field was made for a map
-abbrev pub with_field : Trail → ℕ → ℕ → Detail → Trail
-with_field t f owner detail = FieldDetail f detail ∷ Owner f owner ∷ t
 
 -- what a field admits, if it is one and that was written
 abbrev pub detail_of : Trail → Option ℕ → Option Detail
@@ -43,15 +42,22 @@ MakesFields first t _ = ⊥
 
 -- Private copies
 
--- the entry that a private copy has beyond those of its map: its key, and what its field admits
-abbrev pub More : Type 0
-More = Option (Key × Detail)
+-- an entry beyond those of a map: its key, and what its field admits
+abbrev pub Extra : Type 0
+Extra = Key × Detail
 
--- an entry with this key and detail may come after those of a map
-pub record MayBeLast (t : Trail) (m : ℕ) (key : Key) (detail : Detail) : Type 0 where
+-- the entry that a private copy has beyond those of its map, if it has one
+abbrev pub More : Type 0
+More = Option Extra
+
+-- an entry with this key and detail may come after those of a map; so far each detail admits everything
+pub record MayBeLast (s : Shape) (t : Trail) (m : ℕ) (key : Key) (detail : Detail) : Type 0 where
   pub form : IsKey key
   pub proper : IsProperKey key
   pub lacks : LacksName t m (count_of t m) key.name
+  pub accessor : key.kind ≡ AccessorProp → detail ≡ tagged_field
+  pub class : IsClassInRange detail.class
+  pub there : IsClassThere s t detail.class
   pub tagged : detail ≡ tagged_field
 
 -- how many entries a private copy of a map with n entries has
@@ -109,17 +115,13 @@ pub record IsClosed (t : Trail) (c : ℕ) : Type 0 where
   pub parent : parent_in t c ≡ Some None
   pub prototype : IsSome (prototype_in t c)
 
--- a field is made, and admits everything
-pub record IsOpenField (t : Trail) (f : ℕ) : Type 0 where
-  pub made : IsField t f
-  pub tagged : detail_in t f ≡ Some tagged_field
-
 -- the first n entries of a map are written, and are as a sound map has them
 pub record IsWhole (t : Trail) (m n : ℕ) : Type 0 where
   pub keys : (k : ℕ) → k < n → IsSome (key_at t m k)
-  pub fields : (k : ℕ) → k < n → IsSomeAnd (field_at t m k) (λ f. IsOpenField t f)
+  pub fields : (k : ℕ) → k < n → IsSomeAnd (field_at t m k) (λ f. IsField t f)
   pub distinct : HaveDistinctNames t m n
   pub proper : HaveProperKeys t m n
+  pub tagged : HaveTaggedAccessors t m n
 
 -- writes that fill a new map, with entries and fields from first ones on
 abbrev pub FillsCopy : ℕ → ℕ → ℕ → Trail → Write → Type 0

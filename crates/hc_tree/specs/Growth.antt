@@ -1,5 +1,5 @@
 -- What each call makes of the tree.
-use Rattle.std.specs.Prelude.{◌≡◌, ℕ, ◌+◌, ◌<◌, ◌≤◌, true, false, IsTrue, if◌then◌else◌, Option, Some, None, IfSome, IsSomeAnd, [], All, Result, Ok, Err, ⊤, ◌∷◌}
+use Rattle.std.specs.Prelude.{◌≡◌, ℕ, ◌+◌, ◌<◌, ◌≤◌, true, false, IsTrue, if◌then◌else◌, Option, Some, None, IfSome, IsSome, IsSomeAnd, [], All, Result, Ok, Err, ⊤, ◌∷◌}
 use Rattle.hc_layout.specs.Capacity.{cap_of}
 use Rattle.hc_layout.specs.declared.capacity.TheConstants.{MAX_FAST}
 use Rattle.hc_layout.specs.declared.shape.Shape.{Shape}
@@ -12,9 +12,9 @@ use Rattle.hc_heap.specs.declared.space.Space.{Space}
 use Rattle.hc_heap.specs.States.{HeapState}
 use Rattle.hc_tree.specs.declared.need.Need.{Need}
 use Rattle.hc_descs.specs.Entries.{key_at, field_at}
-use Rattle.hc_descs.specs.Copies.{HasEntriesOf}
+use Rattle.hc_descs.specs.Copies.{HasArray, HasEntriesOf}
 use Rattle.hc_links.specs.Chains.{child_of, links_in}
-use Rattle.hc_tree.specs.Tree.{gate_with, HaveDistinctNames, HaveProperKeys, HaveTaggedFields, IsDeadFor}
+use Rattle.hc_tree.specs.Tree.{gate_with, HaveDistinctNames, HaveProperKeys, HaveTaggedAccessors, IsDeadFor}
 use Rattle.hc_tree.specs.Needs.{no_need}
 
 -- Unstable maps
@@ -88,7 +88,8 @@ pub record IsReady (t : Trail) (c n : ℕ) : Type 0 where
   pub unlinked : links_in t c ≡ []
   pub distinct : HaveDistinctNames t c n
   pub proper : HaveProperKeys t c n
-  pub tagged : HaveTaggedFields t c n
+  pub tagged : HaveTaggedAccessors t c n
+  pub array : HasArray t c n
 
 -- a map that is ready to be opened as the child of another
 pub record IsReadyChild (t : Trail) (m c n f : ℕ) (key : Key) : Type 0 where
@@ -101,6 +102,7 @@ pub record IsReadyChild (t : Trail) (m c n f : ℕ) (key : Key) : Type 0 where
   pub last : key_at t c n ≡ Some key
   pub field : field_at t c n ≡ Some f
   pub owner : owner_in t f ≡ Some c
+  pub described : IsSome (detail_in t f)
   pub live : (bits_in t m).deprecated ≡ false
   pub young : (bits_in t c).deprecated ≡ false
   pub dead : All (IsDeadFor t (Some key)) (links_in t m)

@@ -3,3 +3,4 @@ pub mod Needs
 pub mod Growth
 pub mod Kept
 pub mod Copying
+pub mod Walking

@@ -1,5 +1,5 @@
 -- How many items of each region a call needs, and when it finds no room.
-use Rattle.std.specs.Prelude.{ℕ, ◌+◌, ◌==◌, if◌then◌else◌, Result, Ok, Err}
+use Rattle.std.specs.Prelude.{◌≡◌, ℕ, zero, suc, ◌+◌, ◌≤◌, ◌^◌, ◌==◌, if◌then◌else◌, Result, Ok, Err}
 use Rattle.hc_layout.specs.Capacity.{cap_of}
 use Rattle.hc_layout.specs.declared.shape.Shape.{Shape}
 use Rattle.hc_layout.specs.declared.shape.Region.TheVariants.{Maps, Entries, Fields, Links, Slots}
@@ -42,3 +42,52 @@ IsSpaceExact v need (Err e) = HasSpace v need → ⊥
 abbrev pub used_after : Result ℕ Space → Need → Shape → Shape
 used_after (Ok m) need used = with_need need used
 used_after (Err e) need used = used
+
+-- what two operations need, one after the other
+abbrev pub both : Need → Need → Need
+both a b = record {
+  maps = a.maps + b.maps;
+  entries = a.entries + b.entries;
+  fields = a.fields + b.fields;
+  links = a.links + b.links;
+  slots = a.slots + b.slots;
+}
+
+-- so few items that two such needs can be added
+pub record IsFew (need : Need) : Type 0 where
+  pub maps : need.maps ≤ 2 ^ 16
+  pub entries : need.entries ≤ 2 ^ 16
+  pub fields : need.fields ≤ 2 ^ 16
+  pub links : need.links ≤ 2 ^ 16
+  pub slots : need.slots ≤ 2 ^ 16
+
+-- slots alone
+abbrev pub slots_alone : ℕ → Need
+slots_alone slots = record no_need { slots = slots }
+
+-- the entries of new maps with one entry, two, and so on up to n
+abbrev pub arrays_upto : ℕ → ℕ
+arrays_upto zero = 0
+arrays_upto (suc n) = arrays_upto n + cap_of (suc n)
+
+-- a walk that makes a map for each of n properties
+abbrev pub walk_need : ℕ → Need
+walk_need n = record { maps = n; entries = arrays_upto n; fields = n; links = n; slots = 0 }
+
+-- no item was taken back
+pub record IsNoLess (old new : Shape) : Type 0 where
+  pub maps : old.maps ≤ new.maps
+  pub entries : old.entries ≤ new.entries
+  pub fields : old.fields ≤ new.fields
+  pub links : old.links ≤ new.links
+  pub slots : old.slots ≤ new.slots
+
+-- no more items were handed out than were needed, no cell was, and none was taken back
+pub record IsWithin (need : Need) (old new : Shape) : Type 0 where
+  pub maps : new.maps ≤ old.maps + need.maps
+  pub entries : new.entries ≤ old.entries + need.entries
+  pub fields : new.fields ≤ old.fields + need.fields
+  pub links : new.links ≤ old.links + need.links
+  pub slots : new.slots ≤ old.slots + need.slots
+  pub cells : new.cells ≡ old.cells
+  pub rises : IsNoLess old new

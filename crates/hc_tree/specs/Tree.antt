@@ -11,7 +11,7 @@ use Rattle.hc_value.specs.declared.field.Detail.{Detail}
 use Rattle.hc_heap.specs.Writes.{Trail}
 use Rattle.hc_heap.specs.Readings.{gate_in, parent_in, prototype_in, bits_in, owner_in, detail_in, link_key_in, link_child_in, root_in}
 use Rattle.hc_descs.specs.Entries.{key_at, field_at}
-use Rattle.hc_descs.specs.Copies.{HasEntriesOf}
+use Rattle.hc_descs.specs.Copies.{HasArray, HasEntriesOf}
 use Rattle.hc_links.specs.Chains.{links_in}
 
 -- the gate of a map with so many entries, which isn't locked
@@ -39,9 +39,13 @@ HaveProperKeys t m n = (k : ℕ) (key : Key) → k < n → key_at t m k ≡ Some
 abbrev pub tagged_field : Detail
 tagged_field = record { rep = Tagged; constness = Mutable; class = Any }
 
--- the fields of a map's first n entries admit everything: so it is until fields have details of their own
-abbrev pub HaveTaggedFields : Trail → ℕ → ℕ → Type 0
-HaveTaggedFields t m n = (k f : ℕ) → k < n → field_at t m k ≡ Some f → detail_in t f ≡ Some tagged_field
+-- the fields of the accessors among a map's first n entries admit everything
+abbrev pub HaveTaggedAccessors : Trail → ℕ → ℕ → Type 0
+HaveTaggedAccessors t m n = (k f : ℕ) (key : Key) → k < n → key_at t m k ≡ Some key → key.kind ≡ AccessorProp → field_at t m k ≡ Some f → detail_in t f ≡ Some tagged_field
+
+-- every field admits everything: so it is until fields have details of their own
+abbrev pub AreTagged : Trail → Type 0
+AreTagged t = (f : ℕ) (d : Detail) → detail_in t f ≡ Some d → d ≡ tagged_field
 
 -- a map is the child of another, whose gate is g, for a key: it has the other's prototype and entries, and
 -- one entry more, whose field is its own
@@ -89,7 +93,8 @@ pub record IsBare (t : Trail) (m : ℕ) (g : GateWord) : Type 0 where
 pub record IsSoundMap (t : Trail) (m : ℕ) (g : GateWord) : Type 0 where
   pub distinct : HaveDistinctNames t m g.entries
   pub proper : HaveProperKeys t m g.entries
-  pub tagged : HaveTaggedFields t m g.entries
+  pub tagged : HaveTaggedAccessors t m g.entries
+  pub array : HasArray t m g.entries
   pub unlocked : g.is_locked ≡ false
   pub alone : IsTrue g.is_private → parent_in t m ≡ Some None
   pub unlinked : IsTrue g.is_private → links_in t m ≡ []
@@ -98,7 +103,8 @@ pub record IsSoundMap (t : Trail) (m : ℕ) (g : GateWord) : Type 0 where
   pub child : (p : ℕ) → parent_in t m ≡ Some (Some p) → IsLedTo t p m
   pub root : g.is_private ≡ false → parent_in t m ≡ Some None → IsBare t m g
 
--- the tree is sound: each open map is, and what a root word names is a root
+-- the tree is sound: each open map is, what a root word names is a root, and every field admits everything so far
 pub record IsTree (t : Trail) : Type 0 where
   pub maps : (m : ℕ) (g : GateWord) → gate_in t m ≡ Some g → IsSoundMap t m g
   pub roots : (o r : ℕ) → (root_in t o).map ≡ Some r → IsRoot t (Some o) r
+  pub plain : AreTagged t

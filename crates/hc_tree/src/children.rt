@@ -1,28 +1,30 @@
 //! The children of maps.
 ghost use Rattle.std.specs.Prelude.{◌≡◌, ◌+◌, ◌<◌, ℕ, false, None, Some, Ok, IfOk, IfSome, IsSomeAnd, All};
 ghost use Rattle.hc_layout.specs.declared.shape.Region.TheVariants.{Maps, Entries, Fields};
-ghost use Rattle.hc_layout.specs.declared.capacity.TheConstants.{MAX_FAST};
-ghost use Rattle.hc_heap.specs.Readings.{bits_in, gate_in, prototype_in};
-ghost use Rattle.hc_heap.specs.Lawful.{IsKey};
+ghost use Rattle.hc_value.specs.Field.{IsClassInRange};
+ghost use Rattle.hc_value.specs.declared.prop.Kind.TheVariants.{AccessorProp};
+ghost use Rattle.hc_heap.specs.Readings.{bits_in, gate_in, prototype_in, detail_in};
+ghost use Rattle.hc_heap.specs.Lawful.{IsClassThere, IsKey};
 ghost use Rattle.hc_heap.specs.Kept.{Adds};
 ghost use Rattle.hc_heap.specs.States.{IsHeap, Goes, HasRoom};
 ghost use Rattle.hc_descs.specs.Entries.{LacksName, count_of};
 ghost use Rattle.hc_links.specs.Chains.{links_in};
 ghost use Rattle.hc_tree.specs.Tree.{IsTree, IsChildFor, IsDeadFor, IsProperKey, tagged_field};
 ghost use Rattle.hc_tree.specs.Needs.{HasSpace, IsSpaceExact, used_after, with_need};
-ghost use Rattle.hc_tree.specs.Growth.{MayGrow, EndsWith, MakesMap, IsStill, IsUnmoved, IsReadyChild, live_child, child_need};
+ghost use Rattle.hc_tree.specs.Growth.{MayGrow, EndsWith, MakesMap, IsStill, IsUnmoved, IsReadyChild, live_child, child_need, marked};
 
-use crate::fields::new_field;
 use crate::laws::maps_are_kept;
 use crate::mark::mark_unstable;
-use crate::need::{Need, has_space};
+use crate::need::{has_space, of_child};
 use hc_descs::copy;
+use hc_fields::new_field;
 use hc_heap::{Heap, Pace, Space, forms_are_kept, gates_are_open, unused_says_nothing};
-use hc_layout::{GateWord, Region, cap};
+use hc_layout::{GateWord, Region};
 use hc_links::{child, link, links_are_chained, same_keys_are_equal};
 use hc_value::{Detail, Key};
 
-/// The live child of a map for a key. It is made where there is none, with a new field of this detail.
+/// The live child of a map for a key. It is made where there is none, with a new field of this detail: then the map is made
+/// unstable first.
 pub fn child_or_make<P: Pace>(
     h: &mut Heap<P>,
     map: u32,
@@ -35,6 +37,9 @@ pub fn child_or_make<P: Pace>(
     requires key { IsKey key }
     requires proper { IsProperKey key }
     requires lacks { LacksName h.old.view.trail map (count_of h.old.view.trail map) key.name }
+    requires accessor { key.kind ≡ AccessorProp → detail ≡ tagged_field }
+    requires class { IsClassInRange detail.class }
+    requires there { IsClassThere h.old.view.shape h.old.view.trail detail.class }
     requires tagged { detail ≡ tagged_field }
     ensures live { IfOk result (λ c. live_child h.new.view.trail map key ≡ Some c) }
     ensures number { IfOk result (λ c. live_child h.old.view.trail map key ≡ None → c ≡ h.old.view.used.maps) }
@@ -45,6 +50,7 @@ pub fn child_or_make<P: Pace>(
     ensures used { h.new.view.used ≡ used_after result (child_need (live_child h.old.view.trail map key) (count_of h.old.view.trail map)) h.old.view.used }
     ensures still { IsStill (live_child h.old.view.trail map key) result → IsUnmoved h.old h.new }
     ensures writes { Adds (MakesMap h.old.view.used (Some map)) h.old.view.trail h.new.view.trail }
+    ensures begins { IfOk result (λ c. live_child h.old.view.trail map key ≡ None → Adds (MakesMap h.old.view.used (Some map)) (marked h.old.view.trail map) h.new.view.trail) }
     ensures shape { h.new.view.shape ≡ h.old.view.shape }
     ensures tree { IsTree h.new.view.trail }
     ensures heap { IsHeap h.new.view }
@@ -58,24 +64,10 @@ pub fn child_or_make<P: Pace>(
         return Ok(child);
     }
     let n = h.gate(map).unwrap().entries;
-    if !has_space(h, needed(n)) {
+    if !has_space(h, of_child(n)) {
         return Err(Space);
     }
     Ok(make_child(h, map, key, detail, n))
-}
-
-// What a new child of a map with n entries needs.
-fn needed(n: u32) -> Need
-    requires few { n < MAX_FAST }
-    ensures { result ≡ child_need None n }
-{
-    Need {
-        maps: 1,
-        entries: cap(n + 1),
-        fields: 1,
-        links: 1,
-        slots: 0,
-    }
 }
 
 // The newest child of a map for a key, unless it is deprecated.
@@ -102,6 +94,9 @@ fn make_child<P: Pace>(h: &mut Heap<P>, map: u32, key: Key, detail: Detail, n: u
     requires key { IsKey key }
     requires proper { IsProperKey key }
     requires lacks { LacksName h.old.view.trail map n key.name }
+    requires accessor { key.kind ≡ AccessorProp → detail ≡ tagged_field }
+    requires class { IsClassInRange detail.class }
+    requires there { IsClassThere h.old.view.shape h.old.view.trail detail.class }
     requires tagged { detail ≡ tagged_field }
     requires dead { All (IsDeadFor h.old.view.trail (Some key)) (links_in h.old.view.trail map) }
     requires space { HasSpace h.old.view (child_need None n) }
@@ -111,6 +106,7 @@ fn make_child<P: Pace>(h: &mut Heap<P>, map: u32, key: Key, detail: Detail, n: u
     ensures ends { EndsWith h.new.view.trail result n key detail }
     ensures used { h.new.view.used ≡ with_need (child_need None n) h.old.view.used }
     ensures writes { Adds (MakesMap h.old.view.used (Some map)) h.old.view.trail h.new.view.trail }
+    ensures begins { Adds (MakesMap h.old.view.used (Some map)) (marked h.old.view.trail map) h.new.view.trail }
     ensures shape { h.new.view.shape ≡ h.old.view.shape }
     ensures tree { IsTree h.new.view.trail }
     ensures heap { IsHeap h.new.view }
@@ -145,11 +141,15 @@ fn begin_child<P: Pace>(h: &mut Heap<P>, map: u32, key: Key, detail: Detail, n: 
     requires key { IsKey key }
     requires proper { IsProperKey key }
     requires lacks { LacksName h.old.view.trail map n key.name }
+    requires accessor { key.kind ≡ AccessorProp → detail ≡ tagged_field }
+    requires class { IsClassInRange detail.class }
+    requires there { IsClassThere h.old.view.shape h.old.view.trail detail.class }
     requires tagged { detail ≡ tagged_field }
     requires dead { All (IsDeadFor h.old.view.trail (Some key)) (links_in h.old.view.trail map) }
     requires space { HasSpace h.old.view (child_need None n) }
     ensures number { result ≡ h.old.view.used.maps }
     ensures ready { IsReadyChild h.new.view.trail map result n h.old.view.used.fields key }
+    ensures detail { detail_in h.new.view.trail h.old.view.used.fields ≡ Some detail }
     ensures used { h.new.view.used ≡ record (with_need (child_need None n) h.old.view.used) { links = h.old.view.used.links } }
     ensures writes { Adds (MakesMap h.old.view.used (Some map)) h.old.view.trail h.new.view.trail }
     ensures bits { bits_in h.new.view.trail map ≡ bits_in h.old.view.trail map }

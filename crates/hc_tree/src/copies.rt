@@ -3,21 +3,23 @@ ghost use Rattle.std.specs.Prelude.{◌≡◌, ◌+◌, ◌<◌, ◌≤◌, IsTr
 ghost use Rattle.hc_layout.specs.declared.capacity.TheConstants.{MAX_FAST};
 ghost use Rattle.hc_layout.specs.declared.shape.Region.TheVariants.{Maps, Entries, Fields};
 ghost use Rattle.hc_heap.specs.Writes.{Gate};
-ghost use Rattle.hc_heap.specs.Readings.{gate_in};
+ghost use Rattle.hc_heap.specs.Readings.{no_array, gate_in, array_in};
 ghost use Rattle.hc_heap.specs.Kept.{Adds};
 ghost use Rattle.hc_heap.specs.States.{IsHeap, Goes, HasRoom, with_write};
+ghost use Rattle.hc_descs.specs.Copies.{HasArray};
 ghost use Rattle.hc_descs.specs.Entries.{count_of, IsOpenMap};
-ghost use Rattle.hc_tree.specs.Tree.{IsTree, gate_with};
+ghost use Rattle.hc_tree.specs.Tree.{AreTagged, IsTree, gate_with};
 ghost use Rattle.hc_tree.specs.Needs.{HasSpace, IsSpaceExact, used_after};
 ghost use Rattle.hc_tree.specs.Growth.{MayBePrototype, IsUnmoved, MakesMap};
 ghost use Rattle.hc_tree.specs.Copying.{MayBeLast, IsClosed, IsWhole, IsPrivateCopy, HasCopied, HasMore, FillsCopy, with_closed, filled_used, copy_need, copied_count, copied_array, copied_fields};
 
-use crate::fields::{new_field, new_fields};
+use crate::fields::new_fields;
 use crate::laws::maps_are_kept;
-use crate::need::{Need, array_size, has_space};
+use crate::need::{Need, has_space, of_copy, of_longer_copy};
 use hc_descs::{copy, copy_all, copy_keys};
+use hc_fields::new_field;
 use hc_heap::{Heap, Pace, Space, gates_are_open, unused_says_nothing};
-use hc_layout::{GateWord, Region, cap};
+use hc_layout::{GateWord, Region};
 use hc_links::links_are_chained;
 use hc_value::{Detail, Key};
 
@@ -35,7 +37,7 @@ pub fn private_copy<P: Pace>(
     requires few { copied_count more (count_of h.old.view.trail map) ≤ MAX_FAST }
     requires proto { MayBePrototype h.old.view.used h.old.view.trail proto }
     requires alone { IsTrue fresh → more ≡ None }
-    requires more { IfSome more (λ e. MayBeLast h.old.view.trail map e.0 e.1) }
+    requires more { IfSome more (λ e. MayBeLast h.old.view.shape h.old.view.trail map e.0 e.1) }
     ensures number { IfOk result (λ c. c ≡ h.old.view.used.maps) }
     ensures copy { IfOk result (λ c. IsPrivateCopy fresh more proto h.new.view.trail c map (count_of h.old.view.trail map) h.old.view.used.fields) }
     ensures space { IsSpaceExact h.old.view (copy_need fresh more (count_of h.old.view.trail map)) result }
@@ -62,16 +64,9 @@ fn need_of(fresh: bool, more: Option<(Key, Detail)>, n: u32) -> Need
     requires few { copied_count more n ≤ MAX_FAST }
     ensures { result ≡ copy_need fresh more n }
 {
-    let (entries, fields) = match more {
-        Some(_) => (cap(n + 1), 1),
-        None => (array_size(n), if fresh { n } else { 0 }),
-    };
-    Need {
-        maps: 1,
-        entries,
-        fields,
-        links: 0,
-        slots: 0,
+    match more {
+        Some(_) => of_longer_copy(n),
+        None => of_copy(fresh, n),
     }
 }
 
@@ -89,7 +84,7 @@ fn make_copy<P: Pace>(
     requires few { copied_count more n ≤ MAX_FAST }
     requires proto { MayBePrototype h.old.view.used h.old.view.trail proto }
     requires alone { IsTrue fresh → more ≡ None }
-    requires more { IfSome more (λ e. MayBeLast h.old.view.trail map e.0 e.1) }
+    requires more { IfSome more (λ e. MayBeLast h.old.view.shape h.old.view.trail map e.0 e.1) }
     requires space { HasSpace h.old.view (copy_need fresh more n) }
     ensures number { result ≡ h.old.view.used.maps }
     ensures copy { IsPrivateCopy fresh more proto h.new.view.trail result map n h.old.view.used.fields }
@@ -127,6 +122,7 @@ fn new_closed<P: Pace>(h: &mut Heap<P>, proto: Option<u32>) -> u32
     ensures number { result ≡ h.old.view.used.maps }
     ensures view { h.new.view ≡ record h.old.view { trail = with_closed h.old.view.trail proto result; used = record h.old.view.used { maps = h.old.view.used.maps + 1 } } }
     ensures closed { IsClosed h.new.view.trail result }
+    ensures bare { array_in h.new.view.trail result ≡ no_array }
     ensures tree { IsTree h.new.view.trail }
     ensures heap { IsHeap h.new.view }
     ensures goes { Goes h.old.desk h.new.desk }
@@ -154,13 +150,16 @@ fn fill<P: Pace>(
     requires open { IsSomeAnd (gate_in h.old.view.trail map) (λ g. g.entries ≡ n) }
     requires handed { copy < h.old.view.used.maps }
     requires closed { gate_in h.old.view.trail copy ≡ None }
+    requires bare { array_in h.old.view.trail copy ≡ no_array }
     requires few { copied_count more n ≤ MAX_FAST }
     requires alone { IsTrue fresh → more ≡ None }
-    requires more { IfSome more (λ e. MayBeLast h.old.view.trail map e.0 e.1) }
+    requires more { IfSome more (λ e. MayBeLast h.old.view.shape h.old.view.trail map e.0 e.1) }
     requires entries { HasRoom h.old.view Entries (copied_array more n) }
     requires fields { HasRoom h.old.view Fields (copied_fields fresh more n) }
     ensures entries { HasCopied fresh h.new.view.trail copy map n h.old.view.used.fields }
     ensures last { HasMore more h.new.view.trail copy n }
+    ensures array { HasArray h.new.view.trail copy (copied_count more n) }
+    ensures plain { AreTagged h.old.view.trail → AreTagged h.new.view.trail }
     ensures used { h.new.view.used ≡ filled_used fresh more n h.old.view.used }
     ensures writes { Adds (FillsCopy copy h.old.view.used.entries h.old.view.used.fields) h.old.view.trail h.new.view.trail }
     ensures shape { h.new.view.shape ≡ h.old.view.shape }
@@ -180,12 +179,15 @@ fn fill_with_one<P: Pace>(h: &mut Heap<P>, map: u32, child: u32, n: u32, key: Ke
     requires open { IsSomeAnd (gate_in h.old.view.trail map) (λ g. g.entries ≡ n) }
     requires handed { child < h.old.view.used.maps }
     requires closed { gate_in h.old.view.trail child ≡ None }
+    requires bare { array_in h.old.view.trail child ≡ no_array }
     requires few { n < MAX_FAST }
-    requires more { MayBeLast h.old.view.trail map key detail }
+    requires more { MayBeLast h.old.view.shape h.old.view.trail map key detail }
     requires entries { HasRoom h.old.view Entries (copied_array (Some (key, detail)) n) }
     requires fields { HasRoom h.old.view Fields 1 }
     ensures entries { HasCopied false h.new.view.trail child map n h.old.view.used.fields }
     ensures last { HasMore (Some (key, detail)) h.new.view.trail child n }
+    ensures array { HasArray h.new.view.trail child (n + 1) }
+    ensures plain { AreTagged h.old.view.trail → AreTagged h.new.view.trail }
     ensures used { h.new.view.used ≡ filled_used false (Some (key, detail)) n h.old.view.used }
     ensures writes { Adds (FillsCopy child h.old.view.used.entries h.old.view.used.fields) h.old.view.trail h.new.view.trail }
     ensures shape { h.new.view.shape ≡ h.old.view.shape }
@@ -202,9 +204,12 @@ fn fill_alike<P: Pace>(h: &mut Heap<P>, map: u32, copy: u32, n: u32, fresh: bool
     requires open { IsSomeAnd (gate_in h.old.view.trail map) (λ g. g.entries ≡ n) }
     requires handed { copy < h.old.view.used.maps }
     requires closed { gate_in h.old.view.trail copy ≡ None }
+    requires bare { array_in h.old.view.trail copy ≡ no_array }
     requires entries { HasRoom h.old.view Entries (copied_array None n) }
     requires fields { HasRoom h.old.view Fields (copied_fields fresh None n) }
     ensures entries { HasCopied fresh h.new.view.trail copy map n h.old.view.used.fields }
+    ensures array { HasArray h.new.view.trail copy n }
+    ensures plain { AreTagged h.old.view.trail → AreTagged h.new.view.trail }
     ensures used { h.new.view.used ≡ filled_used fresh None n h.old.view.used }
     ensures writes { Adds (FillsCopy copy h.old.view.used.entries h.old.view.used.fields) h.old.view.trail h.new.view.trail }
     ensures shape { h.new.view.shape ≡ h.old.view.shape }
@@ -233,6 +238,7 @@ fn open_private<P: Pace>(h: &mut Heap<P>, map: u32, n: u32)
     requires closed { IsClosed h.old.view.trail map }
     requires few { n ≤ MAX_FAST }
     requires whole { IsWhole h.old.view.trail map n }
+    requires array { HasArray h.old.view.trail map n }
     ensures view { h.new.view ≡ with_write h.old.view (Gate map (gate_with n true)) }
     ensures tree { IsTree h.new.view.trail }
     ensures heap { IsHeap h.new.view }

@@ -7,14 +7,17 @@ mod fields;
 mod laws;
 mod mark;
 mod need;
+mod retarget;
 mod roots;
 
 pub use children::child_or_make;
 pub use copies::private_copy;
+pub use fields::detail_at;
 pub use laws::{maps_are_kept, trees_stay};
 pub use mark::mark_unstable;
-pub use need::{Need, array_size, has_space};
-pub use roots::root;
-
-#[cfg(test)]
-mod tests;
+pub use need::{
+    NONE, Need, array_size, has_space, of_child, of_copy, of_longer_copy, of_retarget, of_root,
+    of_walk, plus, with_slots,
+};
+pub use retarget::map_for;
+pub use roots::{known_root, root};

@@ -7,7 +7,7 @@ ghost use Rattle.hc_tree.specs.Needs.{IsSpaceExact, used_after};
 ghost use Rattle.hc_tree.specs.Growth.{MayBePrototype, IsStill, IsUnmoved, root_of, root_need, with_root, with_named_root, of_null_after};
 
 use crate::laws::maps_are_kept;
-use crate::need::{Need, has_space};
+use crate::need::{has_space, of_root};
 use hc_heap::{Heap, Pace, Space, forms_are_kept, unused_says_nothing};
 use hc_layout::{GateWord, Region, RootWord};
 use hc_links::links_are_chained;
@@ -42,6 +42,19 @@ pub fn root<P: Pace>(
     }
 }
 
+/// The root that the maps with a prototype, or null, have so far.
+pub fn known_root<P: Pace>(h: &mut Heap<P>, proto: Option<u32>, of_null: Option<u32>) -> Option<u32>
+    ensures value { result ≡ root_of h.old.view.trail proto of_null }
+    ensures still { IsUnmoved h.old h.new }
+    ensures goes { Goes h.old.desk h.new.desk }
+    ensures went { P.went h.old.pace h.old.desk.trail h.new.desk.trail h.new.pace }
+{
+    match proto {
+        Some(object) => h.object_root(object).map,
+        None => of_null,
+    }
+}
+
 // The root of the maps that have an object as prototype.
 fn root_of_object<P: Pace>(h: &mut Heap<P>, object: u32) -> Result<u32, Space>
     requires tree { IsTree h.old.view.trail }
@@ -65,7 +78,7 @@ fn root_of_object<P: Pace>(h: &mut Heap<P>, object: u32) -> Result<u32, Space>
     if let Some(root) = word.map {
         return Ok(root);
     }
-    if !has_space(h, ONE_MAP) {
+    if !has_space(h, of_root(None)) {
         return Err(Space);
     }
     let root = make_root(h, Some(object));
@@ -101,22 +114,13 @@ fn root_of_null<P: Pace>(h: &mut Heap<P>, of_null: &mut Option<u32>) -> Result<u
     if let Some(root) = *of_null {
         return Ok(root);
     }
-    if !has_space(h, ONE_MAP) {
+    if !has_space(h, of_root(None)) {
         return Err(Space);
     }
     let root = make_root(h, None);
     *of_null = Some(root);
     Ok(root)
 }
-
-// What a root needs.
-const ONE_MAP: Need = Need {
-    maps: 1,
-    entries: 0,
-    fields: 0,
-    links: 0,
-    slots: 0,
-};
 
 // Makes a map without an entry that is nobody's child.
 fn make_root<P: Pace>(h: &mut Heap<P>, proto: Option<u32>) -> u32

@@ -7,7 +7,7 @@ use crate::{Num, Value};
 
 /// How the slot of a field holds its value: as a small integer, an integer, anything that is no integer,
 /// or anything.
-#[derive(Clone, Copy, Debug, PartialEq, Eq)]
+#[derive(Clone, Copy, PartialEq, Eq)]
 pub enum Rep {
     Smi,
     Wide,
@@ -16,21 +16,21 @@ pub enum Rep {
 }
 
 /// Whether a field has only ever had its first value.
-#[derive(Clone, Copy, Debug, PartialEq, Eq)]
+#[derive(Clone, Copy, PartialEq, Eq)]
 pub enum Constness {
     Const,
     Mutable,
 }
 
 /// The objects that a field has had: those of one map, or any value.
-#[derive(Clone, Copy, Debug, PartialEq, Eq)]
+#[derive(Clone, Copy, PartialEq, Eq)]
 pub enum Class {
     Of(u32),
     Any,
 }
 
 /// What a field admits.
-#[derive(Clone, Copy, Debug, PartialEq, Eq)]
+#[derive(Clone, Copy, PartialEq, Eq)]
 pub struct Detail {
     pub rep: Rep,
     pub constness: Constness,
@@ -224,6 +224,3 @@ impl Detail {
         }
     }
 }
-
-#[cfg(test)]
-mod tests;

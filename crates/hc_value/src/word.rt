@@ -162,6 +162,3 @@ fn function(number: u64) -> Option<u32>
         Some((number - 1) as u32)
     }
 }
-
-#[cfg(test)]
-mod tests;

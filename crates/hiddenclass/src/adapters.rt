@@ -61,6 +61,8 @@ pub fn send<W: Write + Drop>(output: &RefCell<Output<W>>) -> Result<(), Failed> 
 }
 
 /// A reader as a source. Before it asks for more it sends out the replies so far, so that whoever waits for them has them.
+/// Where they can't be sent it reads no more: that counts as a failed read here, and as a failed write at the sink, which
+/// takes nothing from then on, so that the run ends as one whose write failed.
 #[derive(Drop)]
 pub struct StdSource<'a, R: Read + Drop, W: Write + Drop> {
     reader: R,

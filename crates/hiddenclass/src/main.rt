@@ -9,6 +9,7 @@ use hc_script::Status;
 use hc_session::{Session, replay};
 use std::cell::RefCell;
 use std::io;
+use std::io::ErrorKind;
 use std::process::ExitCode;
 use std::rt::Env;
 
@@ -35,10 +36,15 @@ fn main(rt: HostRuntime) -> ExitCode {
     ExitCode::from(status.number())
 }
 
-// The words behind the program's name.
+// The words behind the program's name. Words that aren't UTF-8 are of no stated form, as are no words at all.
 fn words_of<R: Env + AllocGlobal>(rt: &R) -> io::Result<Vec<String>> {
     let mut words = Vec::new(rt.alloc());
-    for word in std::env::args(rt)?.skip(1) {
+    let all = match std::env::args(rt) {
+        Ok(all) => all,
+        Err(error) if error.kind() == ErrorKind::InvalidData => return Ok(words),
+        Err(error) => return Err(error),
+    };
+    for word in all.skip(1) {
         words.push(word)?;
     }
     Ok(words)

@@ -1,7 +1,6 @@
 //! Whether the objects that a command names are there.
-ghost use Rattle.std.specs.Prelude.{◌≡◌, length};
-ghost use Rattle.hc_table.specs.Kept.{Kept};
-ghost use Rattle.hc_session.specs.State.{IsOnTables, all_there, is_among, names_among, given_among, proto_among};
+ghost use Rattle.std.specs.Prelude.{◌≡◌};
+ghost use Rattle.hc_session.specs.Tables.{IsOnTables, all_among, names_among, given_among, proto_among};
 
 use hc_script::Command;
 use hc_value::Value;
@@ -9,7 +8,7 @@ use hc_value::Value;
 /// Whether each object that a command on property tables names is one of so many.
 pub fn are_all_there(command: &Command, count: u32) -> bool
     requires { IsOnTables command.now }
-    ensures { (tables : Kept) → length tables.world ≡ count → result ≡ all_there tables command.now }
+    ensures { result ≡ all_among count command.now }
 {
     match command {
         Command::New(proto) => is_proto_there(*proto, count),

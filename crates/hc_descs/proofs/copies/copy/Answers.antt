@@ -1,7 +1,7 @@
 use Rattle.std.proofs.Common.{◌≡◌, ℕ, ◌+◌, ◌<◌, Some, ◌∷◌, ap, sym, ◌∙◌, subst, arith}
 use Rattle.hc_layout.specs.declared.shape.Shape.{Shape}
 use Rattle.hc_heap.specs.Writes.{Trail, EntryKey, Reference}
-use Rattle.hc_heap.specs.Readings.{gate_in}
+use Rattle.hc_heap.specs.Readings.{gate_in, array_in}
 use Rattle.hc_heap.specs.Lawful.{Lawful}
 use Rattle.hc_heap.specs.Kept.{Adds}
 use Rattle.hc_heap.specs.States.{View, HeapState, one_load}
@@ -10,7 +10,7 @@ use Rattle.hc_descs.specs.Copies.{own_array, FillsArray, HasEntriesOf}
 use Rattle.hc_descs.specs.Filling.{FillsEntries, IsFilled}
 use Rattle.hc_descs.proofs.Having.{field-used}
 use Rattle.hc_descs.proofs.Begun.{begun, entries-begun, free-begun}
-use Rattle.hc_descs.proofs.Filled.{adds-entry, has-filled, has-last, spare-last, gate-same}
+use Rattle.hc_descs.proofs.Filled.{adds-entry, has-filled, has-last, spare-last, gate-same, array-same}
 use Rattle.hc_descs.proofs.Given.{given, given-writes, given-entries, given-spare}
 use Rattle.hc_descs.proofs.copies.copy.Goals as goal
 
@@ -38,6 +38,13 @@ give_array-requires-clause-closed g c =
     let start = begun c.args.h.now c.gate.new.self c.fresh-first.new.self (one_load c.args.h.now.desk) c.fresh-first.result c.cap-capacity.result c.gate.ensures.new c.fresh-first.ensures.new c.fresh-first.ensures.first in
     ap (λ (v : View). gate_in v.trail m) c.put_entry.ensures.view
     ∙ (gate-same c.fresh-first.new.self.view.trail c.copy_entries.new.h.view.trail c.fresh-first.result m c.copy_entries.ensures.filled.writes ∙ (ap (λ (t : Trail). gate_in t m) start.trail ∙ c.requires.closed))
+
+pub give_array-requires-clause-bare : goal.give_array-requires-clause-bare
+give_array-requires-clause-bare g c =
+    let m = c.args.child in
+    let start = begun c.args.h.now c.gate.new.self c.fresh-first.new.self (one_load c.args.h.now.desk) c.fresh-first.result c.cap-capacity.result c.gate.ensures.new c.fresh-first.ensures.new c.fresh-first.ensures.first in
+    ap (λ (v : View). array_in v.trail m) c.put_entry.ensures.view
+    ∙ (array-same c.fresh-first.new.self.view.trail c.copy_entries.new.h.view.trail c.fresh-first.result m c.copy_entries.ensures.filled.writes ∙ (ap (λ (t : Trail). array_in t m) start.trail ∙ c.requires.bare))
 
 pub returns-clause-writes : goal.returns-clause-writes
 returns-clause-writes g c =

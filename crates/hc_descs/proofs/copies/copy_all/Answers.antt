@@ -1,6 +1,6 @@
 use Rattle.std.proofs.Common.{◌≡◌, ℕ, Some, ap, sym, ◌∙◌, subst}
 use Rattle.hc_heap.specs.Writes.{Trail}
-use Rattle.hc_heap.specs.Readings.{gate_in}
+use Rattle.hc_heap.specs.Readings.{gate_in, array_in}
 use Rattle.hc_heap.specs.Lawful.{Lawful}
 use Rattle.hc_heap.specs.Kept.{Adds}
 use Rattle.hc_heap.specs.States.{View, HeapState, one_load}
@@ -9,7 +9,7 @@ use Rattle.hc_descs.specs.Copies.{own_array, FillsArray, HasEntriesOf}
 use Rattle.hc_descs.specs.Filling.{FillsEntries, IsFilled}
 use Rattle.hc_descs.proofs.Having.{entries-few}
 use Rattle.hc_descs.proofs.Begun.{begun, entries-begun, free-begun}
-use Rattle.hc_descs.proofs.Filled.{has-filled, gate-same}
+use Rattle.hc_descs.proofs.Filled.{has-filled, gate-same, array-same}
 use Rattle.hc_descs.proofs.Given.{given, given-writes, given-entries}
 use Rattle.hc_descs.proofs.copies.copy_all.Goals as goal
 
@@ -36,6 +36,12 @@ give_array-requires-clause-closed g c =
     let m = c.args.child in
     let start = begun c.args.h.now c.gate.new.self c.fresh-base.new.self (one_load c.args.h.now.desk) c.fresh-base.result c.cap-capacity.result c.gate.ensures.new c.fresh-base.ensures.new c.fresh-base.ensures.first in
     gate-same c.fresh-base.new.self.view.trail c.copy_entries.new.h.view.trail c.fresh-base.result m c.copy_entries.ensures.filled.writes ∙ (ap (λ (t : Trail). gate_in t m) start.trail ∙ c.requires.closed)
+
+pub give_array-requires-clause-bare : goal.give_array-requires-clause-bare
+give_array-requires-clause-bare g c =
+    let m = c.args.child in
+    let start = begun c.args.h.now c.gate.new.self c.fresh-base.new.self (one_load c.args.h.now.desk) c.fresh-base.result c.cap-capacity.result c.gate.ensures.new c.fresh-base.ensures.new c.fresh-base.ensures.first in
+    array-same c.fresh-base.new.self.view.trail c.copy_entries.new.h.view.trail c.fresh-base.result m c.copy_entries.ensures.filled.writes ∙ (ap (λ (t : Trail). array_in t m) start.trail ∙ c.requires.bare)
 
 pub returns-clause-writes : goal.returns-clause-writes
 returns-clause-writes g c =

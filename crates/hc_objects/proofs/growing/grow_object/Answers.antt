@@ -1,4 +1,4 @@
-use Rattle.std.proofs.Common.{◌≡◌, ◌∙◌, ◌<◌, ℕ, ap, sym, subst}
+use Rattle.std.proofs.Common.{◌≡◌, ◌∙◌, ◌<◌, ℕ, Some, None, ap, sym, subst}
 use Rattle.hc_layout.specs.declared.shape.Region.TheVariants.{Slots}
 use Rattle.hc_layout.specs.declared.words.RootWord.{RootWord}
 use Rattle.hc_layout.specs.declared.words.StoreWord.{StoreWord}
@@ -6,12 +6,13 @@ use Rattle.hc_value.specs.declared.field.Detail.{Detail}
 use Rattle.hc_value.specs.declared.key.Key.{Key}
 use Rattle.hc_value.specs.declared.prop.Kind.{Kind}
 use Rattle.hc_heap.specs.Readings.{store_in}
+use Rattle.hc_heap.specs.Kept.{Adds}
 use Rattle.hc_heap.specs.States.{View, HeapState, HasRoom}
 use Rattle.hc_descs.specs.Entries.{count_of, entries_in}
-use Rattle.hc_tree.specs.Growth.{EndsWith}
+use Rattle.hc_tree.specs.Growth.{EndsWith, MakesMap, live_child, marked}
 use Rattle.hc_objects.specs.Changes.{key_of}
 use Rattle.hc_objects.specs.Filling.{slots_need}
-use Rattle.hc_objects.proofs.Childed.{IsChilded, map-same, root-same, objects-same, open-then, unstable-then, holds-then, child-then, grown-then, out-then, room-then, moved-on, used-on}
+use Rattle.hc_objects.proofs.Childed.{IsChilded, child-begins, map-same, root-same, objects-same, open-then, unstable-then, holds-then, child-then, grown-then, out-then, room-then, moved-on, used-on}
 use Rattle.hc_objects.proofs.growing.grow_object.Goals as goal
 
 pub move_to_child-requires : goal.move_to_child-requires
@@ -43,7 +44,7 @@ move_to_child-requires g c =
     let test : HasRoom c.store-store.new.self.view Slots c.slots_needed.result = c.room.ensures.0 c.if-not-room.false in
     let room : HasRoom v Slots (slots_need n (store_in v.trail o).capacity) =
     subst (λ (s : StoreWord). HasRoom v Slots (slots_need n s.capacity)) c.store-store.ensures.value
-    (subst (λ (k : ℕ). HasRoom v Slots k) c.slots_needed.ensures
+    (subst (λ (k : ℕ). HasRoom v Slots k) c.slots_needed.ensures.value
     (subst (λ (x : View). HasRoom x Slots c.slots_needed.result) read test)) in
     record {
       tree = it.tree;
@@ -87,7 +88,11 @@ returns-clause-moved g c =
       tree = c.in-Ok.ensures.tree;
       heap = c.in-Ok.ensures.heap;
     }))) in
+    let begins : live_child v.trail m (key_of p) ≡ None → Adds (MakesMap v.used (Some m)) (marked v.trail m) w.trail =
+    subst (λ (k : Key). live_child v.trail m k ≡ None → Adds (MakesMap v.used (Some m)) (marked v.trail m) w.trail) same
+    (subst (λ (x : View). live_child x.trail m key ≡ None → Adds (MakesMap x.used (Some m)) (marked x.trail m) w.trail) read c.in-Ok.ensures.begins) in
     λ yes. moved-on c.maps_are_kept.ensures.law c.details_rise.ensures.law c.unused_says_nothing.ensures.law c.linked_are_unstable.ensures.law v w o m n child p c.stands.ensures.heap it c.requires.open c.move_to_child.new.h.view c.move_to_child.ensures.moved
+    (child-begins c.linked_are_unstable.ensures.law v w m (key_of p) c.stands.ensures.heap it.writes begins)
 
 pub returns-clause-used : goal.returns-clause-used
 returns-clause-used g c =

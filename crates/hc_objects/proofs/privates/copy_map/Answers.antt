@@ -14,7 +14,7 @@ mark_unstable-requires-clause-handed g c =
 
 pub private_copy-requires-clause-more : goal.private_copy-requires-clause-more
 private_copy-requires-clause-more g c =
-    subst (λ (v : View). IfSome c.args.more (λ e. MayBeLast v.trail c.args.map e.0 e.1)) (sym c.mark_unstable.ensures.view) (marked-last c.args.h.now.view.trail c.args.map c.args.more c.requires.more)
+    subst (λ (v : View). IfSome c.args.more (λ e. MayBeLast v.shape v.trail c.args.map e.0 e.1)) (sym c.mark_unstable.ensures.view) (marked-last c.args.h.now.view.shape c.args.h.now.view.trail c.args.map c.args.more c.requires.more)
 
 pub returns-clause-copied : goal.returns-clause-copied
 returns-clause-copied g c =

@@ -10,8 +10,8 @@ use Rattle.hc_objects.specs.Privates.{IsMovedToCopy}
 use Rattle.hc_objects.proofs.Relinking.{copy-lawful, moved-to-copy}
 use Rattle.hc_objects.proofs.privates.link_alone.Goals as goal
 
-pub need_of_copy-requires : goal.need_of_copy-requires
-need_of_copy-requires g c = record { few = (c.gates_are_open.ensures.law c.args.h.now.view.shape c.args.h.now.view.trail c.args.map (gate_with c.args.n true) c.stands.ensures.heap.lawful c.requires.open).few }
+pub of_copy-requires : goal.of_copy-requires
+of_copy-requires g c = record { few = (c.gates_are_open.ensures.law c.args.h.now.view.shape c.args.h.now.view.trail c.args.map (gate_with c.args.n true) c.stands.ensures.heap.lawful c.requires.open).few }
 
 pub copy_map-copy-requires-clause-few : goal.copy_map-copy-requires-clause-few
 copy_map-copy-requires-clause-few g c =

@@ -1,17 +1,17 @@
 use Rattle.std.proofs.Common.{◌≡◌, ℕ, List, ◌++◌, true, ◌∙◌, sym, ap, Ok, Err}
 use Rattle.std.specs.Prelude.{Result, OnOk, is_ok}
-use Rattle.hc_session.specs.Text.{reply_line}
-use Rattle.hc_session.proofs.NamedWorlds.{numbers_held, does_show, does_keep}
+use Rattle.hc_report.specs.Text.{reply_line}
+use Rattle.hc_session.proofs.NamedWorlds.{numbers_held, replies_show, tables_keep}
 use Rattle.hc_session.proofs.answer.answer.Goals as goal
 
 pub command-requires-clause-numbers : goal.command-requires-clause-numbers
 command-requires-clause-numbers g c = numbers_held _ _ c.requires.names c.requires.command
 
 pub render_reply-requires : goal.render_reply-requires
-render_reply-requires g c = does_show _ _ _ _ _ c.in-Ok.ensures.done c.requires.world c.requires.command
+render_reply-requires g c = record { named = replies_show _ _ _ _ _ c.in-Ok.ensures.done.answers c.requires.world c.requires.command }
 
 pub returns-in-Ok-write_piece-clause-world : goal.returns-in-Ok-write_piece-clause-world
-returns-in-Ok-write_piece-clause-world g c = does_keep _ _ _ _ _ c.in-Ok.ensures.done c.requires.world c.requires.command
+returns-in-Ok-write_piece-clause-world g c = tables_keep _ _ _ _ _ c.in-Ok.ensures.done.answers c.requires.world c.requires.command
 
 -- what holds where a result is Ok
 where_ok : {A B : Type 0} (r : Result A B) (P : Type 0) → is_ok r ≡ true → OnOk r P → P
@@ -29,6 +29,5 @@ returns-clause-write g c failed =
     record {
       reply = c.in-Ok.reply;
       does = c.in-Ok.ensures.done;
-      stands = c.command.ensures.stands;
-      written = (written.0, (written.1.0, sym text ∙ written.1.1), written.2);
+      written = (written.0, (written.1.0, written.1.1, sym text ∙ written.1.2), written.2);
     }

@@ -1,11 +1,14 @@
-use Rattle.std.proofs.Common.{refl, arith}
-use Rattle.hc_session.proofs.Runs.{progress_on}
+use Rattle.std.proofs.Common.{refl, ap, arith}
+use Rattle.hc_script.specs.Reader.{Reader}
+use Rattle.hc_session.specs.Replay.{the_first_place}
+use Rattle.hc_session.specs.State.{Does, any_pace}
+use Rattle.hc_session.proofs.Endings.{nothing_held}
+use Rattle.hc_session.proofs.Runs.{no_progress, progress_on}
 use Rattle.hc_session.proofs.Takes.{command_moves, command_within, command_keeps_names}
 use Rattle.hc_session.proofs.NamedWorlds.{world_kept}
-use Rattle.hc_session.proofs.Endings.{ends_done, ends_memory, ends_write, ends_fault}
-use Rattle.hc_session.proofs.Spends.{SpendLittle, run_spends, partly_spends}
+use Rattle.hc_session.proofs.Ends.{kept_done, kept_in_want, kept_cut_off, kept_fault}
+use Rattle.hc_session.proofs.Spends.{SpendLittle}
 use Rattle.hc_session.proofs.replaying.replay_lines.Goals as goal
-use mathlib.Core.Logic.{inl, inr}
 
 pub answer-requires-clause-world : goal.answer-requires-clause-world
 answer-requires-clause-world g c =
@@ -24,48 +27,46 @@ commands-preserved g c =
     record {
       going = rw c.in-Ok-Some.field-0-is at (c.in-Ok-Some.ensures.phase c.commands.invariant.going);
       within = command_within _ _ _ _ _ took;
-      progress = progress_on _ _ _ _ _ _ _ _ _ _ _ _ c.commands.invariant.progress took answered;
+      progress = progress_on _ _ _ _ _ _ _ _ _ _ _ _ _ _ c.commands.invariant.progress took answered.does answered.written;
       named = rw c.names.ensures.names at c.in-Ok.ensures.world;
       reads = omega (arith, c.commands.invariant.reads, c.in-Ok-Some.ensures.grows);
       writes = omega (arith, c.commands.invariant.writes, c.in-Ok.ensures.grows);
     }
 
-pub returns-in-Err-Memory-clause-written : goal.returns-in-Err-Memory-clause-written
-returns-in-Err-Memory-clause-written g c =
-    rw (c.in-Err-Memory.ensures.memory (rw c.in-Err-Memory.field-0-is refl)) (ends_memory _ _ _ (g.S.Source.left c.next.new.source) _ _ _ c.args.session.now.state c.commands.invariant.progress)
+pub returns-in-Err-Memory-clause-kept : goal.returns-in-Err-Memory-clause-kept
+returns-in-Err-Memory-clause-kept g c =
+    let took = rw c.in-Ok-Some.field-0-is at (c.in-Ok-Some.ensures.serves c.commands.invariant.going) in
+    let same = c.in-Err-Memory.ensures.memory (rw c.in-Err-Memory.field-0-is refl) in
+    let lacked = c.in-Err-Memory.ensures.want (rw c.in-Err-Memory.field-0-is refl) in
+    let law : SpendLittle _ = record { one = c.operations_spend_little.ensures.one; none = c.operations_spend_little.ensures.none; onward = c.operations_spend_little.ensures.onward } in
+    kept_in_want law _ _ c.stands.ensures.stands _ _ _ _ _ _ _ _ (rw same c.commands.invariant.progress) took lacked
 
-pub returns-in-Err-Write-clause-written : goal.returns-in-Err-Write-clause-written
-returns-in-Err-Write-clause-written g c =
+pub returns-in-Err-Write-clause-kept : goal.returns-in-Err-Write-clause-kept
+returns-in-Err-Write-clause-kept g c =
     let took = rw c.in-Ok-Some.field-0-is at (c.in-Ok-Some.ensures.serves c.commands.invariant.going) in
     let answered = rw c.names.ensures.names at (c.in-Err-Write.ensures.write (rw c.in-Err-Write.field-0-is refl)) in
-    ends_write _ _ (g.S.Source.left c.next.new.source) _ _ _ _ _ _ _ _ _ _ c.commands.invariant.progress took answered
+    let law : SpendLittle _ = record { one = c.operations_spend_little.ensures.one; none = c.operations_spend_little.ensures.none; onward = c.operations_spend_little.ensures.onward } in
+    kept_cut_off law _ _ c.stands.ensures.stands _ _ _ _ _ _ _ _ _ c.commands.invariant.progress took answered
 
-pub returns-in-Ok-None-clause-written : goal.returns-in-Ok-None-clause-written
-returns-in-Ok-None-clause-written g c =
+pub returns-in-Ok-None-clause-kept : goal.returns-in-Ok-None-clause-kept
+returns-in-Ok-None-clause-kept g c =
     let took = rw c.in-Ok-None.field-0-is at (c.in-Ok-None.ensures.serves c.commands.invariant.going) in
-    ends_done _ _ _ _ _ _ _ _ _ _ c.commands.invariant.progress took
+    let law : SpendLittle _ = record { one = c.operations_spend_little.ensures.one; none = c.operations_spend_little.ensures.none; onward = c.operations_spend_little.ensures.onward } in
+    kept_done law _ _ c.stands.ensures.stands _ _ _ _ _ _ c.commands.invariant.progress took
 
-pub returns-in-Err-clause-written : goal.returns-in-Err-clause-written
-returns-in-Err-clause-written g c =
-    ends_fault _ _ _ _ _ _ _ _ _ _ _ c.in-Err.fault _ c.commands.invariant.progress (c.in-Err.ensures.serves c.commands.invariant.going)
+pub returns-in-Err-clause-kept : goal.returns-in-Err-clause-kept
+returns-in-Err-clause-kept g c =
+    let law : SpendLittle _ = record { one = c.operations_spend_little.ensures.one; none = c.operations_spend_little.ensures.none; onward = c.operations_spend_little.ensures.onward } in
+    kept_fault law _ _ c.stands.ensures.stands _ _ _ _ _ _ _ c.in-Err.fault _ c.commands.invariant.progress (c.in-Err.ensures.serves c.commands.invariant.going)
     (λ read. c.in-Err.ensures.dropped c.commands.invariant.going (rw read refl)) c.end_by_fault.ensures.written
 
-pub returns-in-Err-Memory-clause-spent : goal.returns-in-Err-Memory-clause-spent
-returns-in-Err-Memory-clause-spent g c = inl refl
-
-pub returns-in-Err-Write-clause-spent : goal.returns-in-Err-Write-clause-spent
-returns-in-Err-Write-clause-spent g c =
-    let took = rw c.in-Ok-Some.field-0-is at (c.in-Ok-Some.ensures.serves c.commands.invariant.going) in
-    let answered = rw c.names.ensures.names at (c.in-Err-Write.ensures.write (rw c.in-Err-Write.field-0-is refl)) in
-    let law : SpendLittle = record { one = c.operations_spend_little.ensures.one; none = c.operations_spend_little.ensures.none; onward = c.operations_spend_little.ensures.onward } in
-    inr (partly_spends law _ _ _ _ _ _ _ _ _ _ _ _ c.stands.ensures.stands c.commands.invariant.progress took answered)
-
-pub returns-in-Ok-None-clause-spent : goal.returns-in-Ok-None-clause-spent
-returns-in-Ok-None-clause-spent g c =
-    let law : SpendLittle = record { one = c.operations_spend_little.ensures.one; none = c.operations_spend_little.ensures.none; onward = c.operations_spend_little.ensures.onward } in
-    inr (run_spends law _ _ _ _ _ _ c.stands.ensures.stands c.commands.invariant.progress)
-
-pub returns-in-Err-clause-spent : goal.returns-in-Err-clause-spent
-returns-in-Err-clause-spent g c =
-    let law : SpendLittle = record { one = c.operations_spend_little.ensures.one; none = c.operations_spend_little.ensures.none; onward = c.operations_spend_little.ensures.onward } in
-    inr (run_spends law _ _ _ _ _ _ c.stands.ensures.stands c.commands.invariant.progress)
+pub commands-init : goal.commands-init
+commands-init g c = record {
+  going = ap (λ (r : Reader). r.phase) c.requires.reader;
+  within = rw c.requires.reader (omega arith);
+  progress = rw (c.requires.reader, nothing_held (g.S.Source.left c.args.source.now))
+      (no_progress (Does any_pace) (the_first_place c.args.session.now.objects) (g.S.Source.left c.args.source.now) (g.K.Sink.taken c.args.sink.now));
+  named = rw c.requires.untouched.world (λ o. tt);
+  reads = omega arith;
+  writes = omega arith;
+}

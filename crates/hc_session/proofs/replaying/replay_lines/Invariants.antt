@@ -1,10 +1,12 @@
 use Rattle.std.proofs.Common.{◌≡◌, ◌≤◌, ◌-◌, length}
-use Rattle.hc_script.specs.Lines.{ahead}
-use Rattle.hc_script.specs.declared.limits.TheConstants.{MAX_BYTES}
+use Rattle.hc_objects.specs.Came.{world_of}
+use Rattle.hc_lines.specs.Lines.{ahead}
+use Rattle.hc_lines.specs.declared.limits.TheConstants.{MAX_BYTES}
 use Rattle.hc_script.specs.declared.reader.Phase.TheVariants.{Going}
 use Rattle.hc_session.specs.Named.{IsNamedWorld}
 use Rattle.hc_session.specs.Progress.{Progress}
 use Rattle.hc_session.specs.Replay.{the_first_place}
+use Rattle.hc_session.specs.State.{Does, any_pace}
 use Rattle.hc_session.proofs.replaying.replay_lines.Given as goal
 
 -- the lines so far were answered, and their text was written
@@ -15,9 +17,9 @@ invariant-commands g l =
     record {
       going : l.reader.phase ≡ Going;
       within : l.reader.at.bytes ≤ MAX_BYTES;
-      progress : Progress (the_first_place l.initial.session.state) (left l.initial.source) (taken l.initial.sink)
-          (record { at = l.reader.at; state = l.session.state }) (ahead l.reader.pending (left l.source)) (taken l.sink);
-      named : IsNamedWorld (length l.reader.at.names) l.session.state.world;
+      progress : Progress (Does any_pace) (the_first_place l.initial.session.objects) (left l.initial.source) (taken l.initial.sink)
+          l.reader.at l.session.objects (ahead l.reader.pending (left l.source)) (taken l.sink);
+      named : IsNamedWorld (length l.reader.at.names) (world_of l.session.objects);
       reads : g.S.Source.faults l.initial.source ≤ g.S.Source.faults l.source;
       writes : g.K.Sink.faults l.initial.sink ≤ g.K.Sink.faults l.sink;
     }

@@ -1,5 +1,5 @@
 use Rattle.std.proofs.Common.{◌≡◌, ◌≤◌, ◌++◌, List, ℕ, length}
-use Rattle.hc_script.specs.Outside.{AppendsBytes}
+use Rattle.hc_lines.specs.Outside.{AppendsBytes}
 use Rattle.hc_session.proofs.write.write_piece.Given as goal
 
 -- a front of the piece was taken, and the rest stands behind it

@@ -3,14 +3,14 @@ use Rattle.hc_value.specs.declared.field.Detail.{Detail}
 use Rattle.std.specs.Prelude.{IsSome}
 use Rattle.hc_layout.specs.declared.shape.Region.TheVariants.{Maps}
 use Rattle.hc_heap.specs.Writes.{Trail, Parent, Prototype}
-use Rattle.hc_heap.specs.Readings.{gate_in, prototype_in}
+use Rattle.hc_heap.specs.Readings.{gate_in, prototype_in, array_in, detail_in}
 use Rattle.hc_heap.specs.Lawful.{LawfulParent, LawfulPrototype}
 use Rattle.hc_heap.specs.States.{View, IsHeap, with_write}
-use Rattle.hc_tree.specs.Tree.{gate_with, tagged_field}
+use Rattle.hc_tree.specs.Tree.{gate_with}
 use Rattle.hc_tree.specs.Growth.{MayGrow, IsReadyChild}
 use Rattle.hc_tree.specs.Copying.{with_field}
 use Rattle.hc_tree.proofs.Fresh.{new-map}
-use Rattle.hc_tree.proofs.Begun.{begun, with_map, with_new_field, grow-gate, open-handed, open-proto, proto-lawful, IsFilledChild, filled-child, filled-tree, filled-ready, filled-writes, filled-bits}
+use Rattle.hc_tree.proofs.Begun.{begun, with_map, with_new_field, grow-gate, open-handed, open-proto, proto-lawful, IsFilledChild, filled-child, filled-tree, filled-ready, filled-writes, filled-bits, filled-detail}
 use Rattle.hc_tree.proofs.children.begin_child.Given.{Over}
 use Rattle.hc_tree.proofs.children.begin_child.Goals as goal
 
@@ -69,8 +69,24 @@ copy-requires-clause-closed g c =
     let new = new-map c.unused_says_nothing.ensures.law v.used v.trail child heap.used number in
     ap (λ (w : View). gate_in w.trail child) e4 ∙ new.gate
 
+pub copy-requires-clause-bare : goal.copy-requires-clause-bare
+copy-requires-clause-bare g c =
+    let v = c.args.h.now.view in
+    let m = c.args.map in
+    let p = c.unwrap-proto.result in
+    let child = c.fresh-child.result in
+    let e0 : c.proto.new.self.view ≡ v = ap (λ s. s.view) c.proto.ensures.new in
+    let e1 : c.fresh-child.new.self.view ≡ with_map child v = ap (λ s. s.view) c.fresh-child.ensures.new ∙ ap (with_map child) e0 in
+    let e2 = c.new_field-field.ensures.view ∙ ap (with_new_field c.new_field-field.result child c.args.detail) e1 in
+    let e3 = c.set_parent.ensures.view ∙ ap (λ (w : View). with_write w (Parent child (Some m))) e2 in
+    let e4 = c.set_proto.ensures.view ∙ ap (λ (w : View). with_write w (Prototype child p)) e3 in
+    let number : v.used.maps ≤ child = subst (λ (w : View). w.used.maps ≤ child) e0 (omega (arith, c.fresh-child.ensures.first)) in
+    let heap : IsHeap v = c.stands.ensures.heap in
+    let new = new-map c.unused_says_nothing.ensures.law v.used v.trail child heap.used number in
+    ap (λ (w : View). array_in w.trail child) e4 ∙ new.array
+
 -- the child as it is after the copy
-whole : (g : Over) (c : goal.After-copy g) → IsFilledChild c.args.h.now.view.shape c.args.h.now.view.trail c.copy.new.h.view.trail c.args.map c.fresh-child.result c.args.n c.new_field-field.result c.set_proto.new.self.view.used.entries c.unwrap-proto.result c.args.key
+whole : (g : Over) (c : goal.After-copy g) → IsFilledChild c.args.h.now.view.shape c.args.h.now.view.trail c.copy.new.h.view.trail c.args.map c.fresh-child.result c.args.n c.new_field-field.result c.set_proto.new.self.view.used.entries c.unwrap-proto.result c.args.key c.args.detail
 whole g c =
     let v = c.args.h.now.view in
     let m = c.args.map in
@@ -80,8 +96,7 @@ whole g c =
     let f = c.new_field-field.result in
     let e0 : c.proto.new.self.view ≡ v = ap (λ s. s.view) c.proto.ensures.new in
     let e1 : c.fresh-child.new.self.view ≡ with_map child v = ap (λ s. s.view) c.fresh-child.ensures.new ∙ ap (with_map child) e0 in
-    let detail : with_new_field f child c.args.detail (with_map child v) ≡ with_new_field f child tagged_field (with_map child v) = ap (λ (d : Detail). with_new_field f child d (with_map child v)) c.requires.tagged in
-    let e2 = c.new_field-field.ensures.view ∙ (ap (with_new_field f child c.args.detail) e1 ∙ detail) in
+    let e2 = c.new_field-field.ensures.view ∙ ap (with_new_field f child c.args.detail) e1 in
     let e3 = c.set_parent.ensures.view ∙ ap (λ (w : View). with_write w (Parent child (Some m))) e2 in
     let e4 = c.set_proto.ensures.view ∙ ap (λ (w : View). with_write w (Prototype child p)) e3 in
     let number : v.used.maps ≤ child = subst (λ (w : View). w.used.maps ≤ child) e0 (omega (arith, c.fresh-child.ensures.first)) in
@@ -91,12 +106,13 @@ whole g c =
     let there : m < v.used.maps = open-handed MayGrow c.unused_says_nothing.ensures.law v m heap c.requires.open in
     let gate : gate_in v.trail m ≡ Some (gate_with n false) = grow-gate (gate_in v.trail m) c.requires.open ∙ ap (λ (x : ℕ). Some (gate_with x false)) (sym c.requires.count) in
     let gate4 : gate_in c.set_proto.new.self.view.trail m ≡ Some (gate_with n false) = ap (λ (w : View). gate_in w.trail m) e4 ∙ gate in
-    let same : c.set_proto.new.self.view ≡ record v { trail = begun v.trail m child f p; used = c.set_proto.new.self.view.used } = begun-is v c.set_proto.new.self.view m child f p e4 in
-    filled-child v c.set_proto.new.self.view c.copy.new.h.view m child n f p c.args.key same heap c.copy.ensures.heap c.copy.ensures.shape
-    c.copy.ensures.writes c.copy.ensures.old c.copy.ensures.last c.requires.tree new gate gate4 is (omega arith) c.requires.live c.requires.dead c.requires.proper c.requires.lacks
+    let same : c.set_proto.new.self.view ≡ record v { trail = begun v.trail m child f p c.args.detail; used = c.set_proto.new.self.view.used } = begun-is v c.set_proto.new.self.view m child f p c.args.detail e4 in
+    let counts : c.set_proto.new.self.view.used.entries ≡ v.used.entries = ap (λ (w : View). w.used.entries) e4 in
+    filled-child v c.set_proto.new.self.view c.copy.new.h.view m child n f p c.args.key c.args.detail same counts heap c.copy.ensures.heap c.copy.ensures.shape
+    c.copy.ensures.writes c.copy.ensures.old c.copy.ensures.last c.copy.ensures.array c.copy.ensures.spare c.requires.tree new gate gate4 is (omega arith) c.requires.live c.requires.dead c.requires.proper c.requires.accessor c.requires.tagged c.requires.lacks
   where
-    begun-is : (v w : View) (m child f : ℕ) (p : Option ℕ) → w ≡ with_write (with_write (with_new_field f child tagged_field (with_map child v)) (Parent child (Some m))) (Prototype child p) → w ≡ record v { trail = begun v.trail m child f p; used = w.used }
-    begun-is v w m child f p e = e ∙ ap (λ (x : View). record v { trail = begun v.trail m child f p; used = x.used }) (sym e)
+    begun-is : (v w : View) (m child f : ℕ) (p : Option ℕ) (d : Detail) → w ≡ with_write (with_write (with_new_field f child d (with_map child v)) (Parent child (Some m))) (Prototype child p) → w ≡ record v { trail = begun v.trail m child f p d; used = w.used }
+    begun-is v w m child f p d e = e ∙ ap (λ (x : View). record v { trail = begun v.trail m child f p d; used = x.used }) (sym e)
 
 pub returns-clause-ready : goal.returns-clause-ready
 returns-clause-ready g c =
@@ -105,7 +121,7 @@ returns-clause-ready g c =
     let e1 : c.fresh-child.new.self.view ≡ with_map c.fresh-child.result v = ap (λ s. s.view) c.fresh-child.ensures.new ∙ ap (with_map c.fresh-child.result) e0 in
     let field : c.new_field-field.result ≡ v.used.fields = c.new_field-field.ensures.fresh ∙ ap (λ (w : View). w.used.fields) e1 in
     subst (λ (x : ℕ). IsReadyChild c.copy.new.h.view.trail c.args.map c.fresh-child.result c.args.n x c.args.key) field
-    (filled-ready v.shape v.trail c.copy.new.h.view.trail c.args.map c.fresh-child.result c.args.n c.new_field-field.result c.set_proto.new.self.view.used.entries c.unwrap-proto.result c.args.key c.maps_are_kept.ensures.law (whole g c) c.links_are_chained.ensures.law)
+    (filled-ready v.shape v.trail c.copy.new.h.view.trail c.args.map c.fresh-child.result c.args.n c.new_field-field.result c.set_proto.new.self.view.used.entries c.unwrap-proto.result c.args.key c.args.detail c.maps_are_kept.ensures.law (whole g c) c.links_are_chained.ensures.law)
 
 pub returns-clause-writes : goal.returns-clause-writes
 returns-clause-writes g c =
@@ -119,10 +135,19 @@ returns-clause-writes g c =
     let number : v.used.maps ≤ child = subst (λ (w : View). w.used.maps ≤ child) e0 (omega (arith, c.fresh-child.ensures.first)) in
     let field : c.new_field-field.result ≡ v.used.fields = c.new_field-field.ensures.fresh ∙ ap (λ (w : View). w.used.fields) e1 in
     let first : c.set_proto.new.self.view.used.entries ≡ v.used.entries = ap (λ (w : View). w.used.entries) e4 in
-    filled-writes v.shape v.used v.trail c.copy.new.h.view.trail c.args.map child c.args.n c.new_field-field.result c.set_proto.new.self.view.used.entries c.unwrap-proto.result c.args.key (whole g c) number (omega arith) (omega arith)
+    filled-writes v.shape v.used v.trail c.copy.new.h.view.trail c.args.map child c.args.n c.new_field-field.result c.set_proto.new.self.view.used.entries c.unwrap-proto.result c.args.key c.args.detail (whole g c) number (omega arith) (omega arith)
 
 pub returns-clause-bits : goal.returns-clause-bits
-returns-clause-bits g c = filled-bits c.args.h.now.view.shape c.args.h.now.view.trail c.copy.new.h.view.trail c.args.map c.fresh-child.result c.args.n c.new_field-field.result c.set_proto.new.self.view.used.entries c.unwrap-proto.result c.args.key (whole g c) c.args.map
+returns-clause-bits g c = filled-bits c.args.h.now.view.shape c.args.h.now.view.trail c.copy.new.h.view.trail c.args.map c.fresh-child.result c.args.n c.new_field-field.result c.set_proto.new.self.view.used.entries c.unwrap-proto.result c.args.key c.args.detail (whole g c) c.args.map
 
 pub returns-clause-tree : goal.returns-clause-tree
-returns-clause-tree g c = filled-tree c.args.h.now.view.shape c.args.h.now.view.trail c.copy.new.h.view.trail c.args.map c.fresh-child.result c.args.n c.new_field-field.result c.set_proto.new.self.view.used.entries c.unwrap-proto.result c.args.key c.maps_are_kept.ensures.law (whole g c)
+returns-clause-tree g c = filled-tree c.args.h.now.view.shape c.args.h.now.view.trail c.copy.new.h.view.trail c.args.map c.fresh-child.result c.args.n c.new_field-field.result c.set_proto.new.self.view.used.entries c.unwrap-proto.result c.args.key c.args.detail c.maps_are_kept.ensures.law (whole g c)
+
+pub returns-clause-detail : goal.returns-clause-detail
+returns-clause-detail g c =
+    let v = c.args.h.now.view in
+    let e0 : c.proto.new.self.view ≡ v = ap (λ s. s.view) c.proto.ensures.new in
+    let e1 : c.fresh-child.new.self.view ≡ with_map c.fresh-child.result v = ap (λ s. s.view) c.fresh-child.ensures.new ∙ ap (with_map c.fresh-child.result) e0 in
+    let field : c.new_field-field.result ≡ v.used.fields = c.new_field-field.ensures.fresh ∙ ap (λ (w : View). w.used.fields) e1 in
+    subst (λ (x : ℕ). detail_in c.copy.new.h.view.trail x ≡ Some c.args.detail) field
+    (filled-detail v.shape v.trail c.copy.new.h.view.trail c.args.map c.fresh-child.result c.args.n c.new_field-field.result c.set_proto.new.self.view.used.entries c.unwrap-proto.result c.args.key c.args.detail c.maps_are_kept.ensures.law (whole g c))

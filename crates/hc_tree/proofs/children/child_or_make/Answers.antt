@@ -24,7 +24,7 @@ returns-in-Some-clause-ends g c =
     let same = ap (λ s. s.view) c.live.ensures.same in
     subst (λ (w : View). EndsWith w.trail c.in-Some.child (count_of t c.args.map) c.args.key c.args.detail) (sym same)
     (subst (λ (d : Detail). EndsWith t c.in-Some.child (count_of t c.args.map) c.args.key d) (sym c.requires.tagged)
-    (found-ends c.same_keys_are_equal.ensures.law t c.args.map c.args.key c.in-Some.child c.requires.tree c.requires.open (sym c.live.ensures.live ∙ c.in-Some.is)))
+    (found-ends c.same_keys_are_equal.ensures.law c.gates_are_open.ensures.law c.args.h.now.view.shape t c.args.map c.args.key c.in-Some.child c.stands.ensures.heap.lawful c.requires.tree c.requires.open (sym c.live.ensures.live ∙ c.in-Some.is)))
 
 pub returns-in-Some-clause-space : goal.returns-in-Some-clause-space
 returns-in-Some-clause-space g c =

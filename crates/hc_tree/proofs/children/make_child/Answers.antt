@@ -10,7 +10,7 @@ use Rattle.hc_heap.specs.Frames.{adds-on}
 use Rattle.hc_descs.specs.Entries.{LacksName}
 use Rattle.hc_links.specs.Chains.{linked}
 use Rattle.hc_tree.specs.Tree.{IsTree, IsChildFor, gate_with}
-use Rattle.hc_tree.specs.Growth.{MayGrow, MakesMap}
+use Rattle.hc_tree.specs.Growth.{MayGrow, MakesMap, marked}
 use Rattle.hc_tree.proofs.Begun.{open-handed}
 use Rattle.hc_tree.proofs.Opened.{marked-may, marked-writes, child-gate, few-of, linked-tree, linked-writes}
 use Rattle.hc_tree.proofs.children.make_child.Given.{Over}
@@ -52,16 +52,22 @@ returns-clause-child g c = (whole g c).1
 pub returns-clause-tree : goal.returns-clause-tree
 returns-clause-tree g c = (whole g c).0
 
-pub returns-clause-writes : goal.returns-clause-writes
-returns-clause-writes g c =
+-- the writes after the map was made unstable
+pub returns-clause-begins : goal.returns-clause-begins
+returns-clause-begins g c =
     let v = c.args.h.now.view in
     let m = c.args.map in
     let child = c.begin_child-child.result in
-    let marks = marked-writes v.used v.trail m in
-    let first : Adds (MakesMap v.used (Some m)) v.trail c.mark_unstable.new.h.view.trail = subst (λ (w : View). Adds (MakesMap v.used (Some m)) v.trail w.trail) (sym c.mark_unstable.ensures.view) marks in
     let used : c.mark_unstable.new.h.view.used ≡ v.used = ap (λ (w : View). w.used) c.mark_unstable.ensures.view in
-    let second = adds-on first (subst (λ (u : Shape). Adds (MakesMap u (Some m)) c.mark_unstable.new.h.view.trail c.begin_child-child.new.h.view.trail) used c.begin_child-child.ensures.writes) in
+    let second : Adds (MakesMap v.used (Some m)) (marked v.trail m) c.begin_child-child.new.h.view.trail =
+    subst (λ (w : View). Adds (MakesMap v.used (Some m)) w.trail c.begin_child-child.new.h.view.trail) c.mark_unstable.ensures.view
+    (subst (λ (u : Shape). Adds (MakesMap u (Some m)) c.mark_unstable.new.h.view.trail c.begin_child-child.new.h.view.trail) used c.begin_child-child.ensures.writes) in
     let number : v.used.maps ≤ child = subst (λ (u : Shape). u.maps ≤ child) used (omega (arith, c.begin_child-child.ensures.number)) in
     let links : c.set_gate.new.self.view.used.links ≡ v.used.links = ap (λ (w : View). w.used.links) c.set_gate.ensures.view ∙ (ap (λ (u : Shape). u.links) c.begin_child-child.ensures.used ∙ ap (λ (u : Shape). u.links) used) in
     let third = linked-writes v.used c.begin_child-child.new.h.view.trail m child c.set_gate.new.self.view.used.links (gate_with (c.args.n + 1) false) c.args.key number (omega arith) in
     adds-on second (subst (λ (t : Trail). Adds (MakesMap v.used (Some m)) c.begin_child-child.new.h.view.trail t) (sym (trail-is g c)) third)
+
+pub returns-clause-writes : goal.returns-clause-writes
+returns-clause-writes g c =
+    let v = c.args.h.now.view in
+    adds-on (marked-writes v.used v.trail c.args.map) (returns-clause-begins g c)

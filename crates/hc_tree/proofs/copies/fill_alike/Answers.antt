@@ -4,11 +4,12 @@ use Rattle.hc_heap.specs.Readings.{gate_in}
 use Rattle.hc_heap.specs.Lawful.{Lawful}
 use Rattle.hc_heap.specs.Kept.{Adds}
 use Rattle.hc_heap.specs.Frames.{adds-none}
-use Rattle.hc_descs.specs.Entries.{entries_in}
-use Rattle.hc_descs.specs.Copies.{FillsArray, HasKeysOf}
+use Rattle.hc_descs.specs.Entries.{AreFree, entries_in}
+use Rattle.hc_descs.specs.Copies.{FillsArray, HasKeysOf, HasOwnArray}
 use Rattle.hc_tree.specs.Copying.{HasNewFields, HasCopied}
-use Rattle.hc_tree.proofs.Made.{gate-same}
-use Rattle.hc_tree.proofs.Filled.{count-is, some-entries, still-open, array-fills, both-fill, has-new, like-made, used-new, room-kept}
+use Rattle.hc_tree.proofs.Arrays.{no-has, own-has, plain-same}
+use Rattle.hc_tree.proofs.Made.{array-same, gate-same}
+use Rattle.hc_tree.proofs.Filled.{count-is, some-entries, still-open, array-fills, both-fill, detail-same, has-new, like-made, used-new, room-kept}
 use Rattle.hc_tree.proofs.copies.fill_alike.Goals as goal
 
 pub returns-then-n-eq0-clause-writes : goal.returns-then-n-eq0-clause-writes
@@ -18,6 +19,28 @@ pub returns-then-not-fresh-clause-writes : goal.returns-then-not-fresh-clause-wr
 returns-then-not-fresh-clause-writes g c =
     let v = c.args.h.now.view in
     array-fills c.args.copy v.used.entries v.used.fields v.trail c.copy_all.new.h.view.trail c.copy_all.ensures.writes
+
+pub returns-then-n-eq0-clause-array : goal.returns-then-n-eq0-clause-array
+returns-then-n-eq0-clause-array g c = no-has c.args.h.now.view.trail c.args.copy c.args.n c.if-n-eq0.true c.requires.bare
+
+pub returns-then-not-fresh-clause-array : goal.returns-then-not-fresh-clause-array
+returns-then-not-fresh-clause-array g c =
+    let v = c.args.h.now.view in
+    let end = c.copy_all.new.h.view.trail in
+    let count = count-is (gate_in v.trail c.args.map) c.args.n c.requires.open in
+    own-has end c.args.copy c.args.n v.used.entries (omega (arith, c.if-n-eq0.false))
+    (subst (λ (k : ℕ). HasOwnArray end c.args.copy k v.used.entries) count c.copy_all.ensures.array)
+    (subst (λ (k : ℕ). AreFree end (v.used.entries + k)) count c.copy_all.ensures.spare)
+
+pub returns-then-not-fresh-clause-plain : goal.returns-then-not-fresh-clause-plain
+returns-then-not-fresh-clause-plain g c plain =
+    let v = c.args.h.now.view in
+    plain-same v.trail c.copy_all.new.h.view.trail (λ x. detail-same c.args.copy v.used.entries x v.trail c.copy_all.new.h.view.trail c.copy_all.ensures.writes) plain
+
+pub copy_keys-requires-clause-bare : goal.copy_keys-requires-clause-bare
+copy_keys-requires-clause-bare g c =
+    let v = c.args.h.now.view in
+    array-same v.used.fields c.args.copy v.trail c.new_fields-first.new.h.view.trail c.new_fields-first.ensures.writes ∙ c.requires.bare
 
 pub copy_keys-requires-clause-open : goal.copy_keys-requires-clause-open
 copy_keys-requires-clause-open g c =
@@ -88,3 +111,20 @@ returns-clause-writes g c =
     let entries : mid.used.entries ≡ v.used.entries = ap (λ (s : Shape). s.entries) c.new_fields-first.ensures.used in
     both-fill c.args.copy v.used.entries v.used.fields v.trail mid.trail end c.new_fields-first.ensures.writes
     (subst (λ (e : ℕ). Adds (FillsArray c.args.copy e) mid.trail end) entries c.copy_keys.ensures.writes)
+
+pub returns-clause-array : goal.returns-clause-array
+returns-clause-array g c =
+    let v = c.args.h.now.view in
+    let mid = c.new_fields-first.new.h.view in
+    let end = c.copy_keys.new.h.view.trail in
+    let some = still-open v.used.fields c.args.map c.args.n v.trail mid.trail c.new_fields-first.ensures.writes c.requires.open in
+    let count = count-is (gate_in mid.trail c.args.map) c.args.n some in
+    own-has end c.args.copy c.args.n mid.used.entries (omega (arith, c.if-n-eq0.false))
+    (subst (λ (k : ℕ). HasOwnArray end c.args.copy k mid.used.entries) count c.copy_keys.ensures.array)
+    (subst (λ (k : ℕ). AreFree end (mid.used.entries + k)) count c.copy_keys.ensures.spare)
+
+pub returns-clause-plain : goal.returns-clause-plain
+returns-clause-plain g c plain =
+    let mid = c.new_fields-first.new.h.view in
+    let end = c.copy_keys.new.h.view.trail in
+    plain-same mid.trail end (λ x. detail-same c.args.copy mid.used.entries x mid.trail end c.copy_keys.ensures.writes) (c.new_fields-first.ensures.plain plain)

@@ -1,6 +1,6 @@
 use Rattle.std.proofs.Common.{◌∙◌, ap, sym, subst, arith, None}
 use Rattle.hc_heap.specs.Writes.{Parent, Prototype}
-use Rattle.hc_heap.specs.Readings.{prototype_in}
+use Rattle.hc_heap.specs.Readings.{prototype_in, array_in}
 use Rattle.hc_heap.specs.Lawful.{AllWithin, LawfulPrototype}
 use Rattle.hc_heap.specs.States.{View, IsHeap, with_write}
 use Rattle.hc_tree.specs.Tree.{IsTree}
@@ -37,6 +37,16 @@ returns-clause-closed g c =
     let new = new-map c.unused_says_nothing.ensures.law v.used v.trail m (subst (λ (w : View). AllWithin v.used w.trail) first c.fresh-map.ensures.unused) (omega arith) in
     let begin = c.stands.ensures.heap in
     subst (λ (w : View). IsClosed w.trail m) (sym third) (closed-map c.links_are_chained.ensures.law v.shape v.trail c.args.proto m begin.lawful new)
+
+pub returns-clause-bare : goal.returns-clause-bare
+returns-clause-bare g c =
+    let v = c.args.h.now.view in
+    let m = c.fresh-map.result in
+    let first = ap (λ s. s.view) c.fresh-map.ensures.new in
+    let second = c.set_parent.ensures.view ∙ ap (λ (w : View). with_write w (Parent m None)) first in
+    let third = c.set_proto.ensures.view ∙ ap (λ (w : View). with_write w (Prototype m c.args.proto)) second in
+    let new = new-map c.unused_says_nothing.ensures.law v.used v.trail m (subst (λ (w : View). AllWithin v.used w.trail) first c.fresh-map.ensures.unused) (omega arith) in
+    ap (λ (w : View). array_in w.trail m) third ∙ new.array
 
 pub returns-clause-tree : goal.returns-clause-tree
 returns-clause-tree g c =

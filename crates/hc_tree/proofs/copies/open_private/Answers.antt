@@ -2,7 +2,7 @@ use Rattle.std.proofs.Common.{sym, subst}
 use Rattle.hc_heap.specs.States.{View, IsHeap}
 use Rattle.hc_tree.specs.Tree.{IsTree}
 use Rattle.hc_tree.proofs.Copied.{private-gate, private-tree}
-use Rattle.hc_tree.proofs.Whole.{whole-entries, whole-tagged}
+use Rattle.hc_tree.proofs.Whole.{whole-entries}
 use Rattle.hc_tree.proofs.copies.open_private.Goals as goal
 
 pub set_gate-requires-clause-lawful : goal.set_gate-requires-clause-lawful
@@ -16,4 +16,4 @@ returns-clause-tree g c =
     let h = c.requires.whole in
     let after = subst IsHeap c.set_gate.ensures.view c.set_gate.ensures.heap in
     subst (λ (w : View). IsTree w.trail) (sym c.set_gate.ensures.view)
-    (private-tree c.maps_are_kept.ensures.law v.shape v.trail c.args.map c.args.n after.lawful c.requires.closed h.distinct h.proper (whole-tagged v.trail c.args.map c.args.n h) c.requires.tree)
+    (private-tree c.maps_are_kept.ensures.law v.shape v.trail c.args.map c.args.n after.lawful c.requires.closed h.distinct h.proper h.tagged c.requires.array c.requires.tree)

@@ -5,6 +5,8 @@ use Rattle.hc_heap.specs.Readings.{gate_in}
 use Rattle.hc_heap.specs.Frames.{goes-none, goes-on}
 use Rattle.hc_heap.specs.States.{View, HeapState}
 use Rattle.hc_tree.specs.Copying.{with_field, detail_at, IsLikeField}
+use Rattle.hc_tree.specs.Tree.{AreTagged}
+use Rattle.hc_tree.proofs.Arrays.{plain-at, plain-field}
 use Rattle.hc_tree.proofs.Made.{and-then, entry-before, detail-same, still-has, AreMade, made-none, made-more, made-like, fields-zero, fields-more}
 use Rattle.hc_tree.proofs.fields.new_fields.Goals as goal
 
@@ -14,13 +16,14 @@ loop-k-init g c =
     record {
       view = fields-zero v;
       made = made-none v.trail c.args.owner c.args.map v.used.fields;
+      plain = λ plain. plain;
       heap = c.stands.ensures.heap;
       goes = goes-none c.args.h.now.desk;
       went = search rules;
     }
 
-pub detail_of_entry-detail-requires : goal.detail_of_entry-detail-requires
-detail_of_entry-detail-requires g c =
+pub detail_at-detail-requires : goal.detail_at-detail-requires
+detail_at-detail-requires g c =
     let v = c.args.h.now.view in
     record { entry = still-has v.used.fields c.args.map c.loop-k.k c.args.n v.trail c.loop-k.h.view.trail c.loop-k.invariant.made.writes c.requires.entries c.loop-k-test.true }
 
@@ -31,25 +34,29 @@ loop-k-preserved g c =
     let k = c.loop-k.k in
     let first = v.used.fields in
     let now = c.loop-k.h.view in
-    let d = c.detail_of_entry-detail.result in
+    let d = c.detail_at-detail.result in
     let f = c.new_field.result in
     let made = c.loop-k.invariant.made in
-    let still : c.detail_of_entry-detail.new.h.view ≡ now = ap (λ (s : HeapState g.row.P.Denot). s.view) c.detail_of_entry-detail.ensures.new in
+    let still : c.detail_at-detail.new.h.view ≡ now = ap (λ (s : HeapState g.row.P.Denot). s.view) c.detail_at-detail.ensures.same in
     let last = c.new_field.ensures.view ∙ ap (λ (w : View). record w { trail = with_field w.trail f c.args.owner d; used = record w.used { fields = w.used.fields + 1 } }) still in
     let fresh : f ≡ first + k = c.new_field.ensures.fresh ∙ (ap (λ (w : View). w.used.fields) still ∙ ap (λ (w : View). w.used.fields) c.loop-k.invariant.view) in
     let is : c.new_field.new.h.view.trail ≡ with_field now.trail (first + k) c.args.owner d = ap (λ (w : View). w.trail) last ∙ ap (λ (x : ℕ). with_field now.trail x c.args.owner d) fresh in
     let has = and-then (λ (x : GateWord). x.entries ≡ c.args.n) (λ (x : GateWord). k < x.entries) (gate_in v.trail m) c.requires.entries (λ x same. let below : k < c.args.n = c.loop-k-test.true in omega (arith, same, below)) in
     let detail : detail_at v.trail m k ≡ Some d =
-    sym (detail-same first m k v.trail now.trail made.writes (entry-before v m k c.gates_are_open.ensures.law c.unused_says_nothing.ensures.law c.stands.ensures.heap has)) ∙ c.detail_of_entry-detail.ensures.value in
+    sym (detail-same first m k v.trail now.trail made.writes (entry-before v m k c.gates_are_open.ensures.law c.unused_says_nothing.ensures.law c.stands.ensures.heap has)) ∙ c.detail_at-detail.ensures.value in
     let on = g.met.P.Pace.goes_on in
     record {
       view = fields-more v now c.new_field.new.h.view (with_field now.trail f c.args.owner d) k c.loop-k.invariant.view last;
       made = subst (λ (t : Trail). AreMade v.trail t c.args.owner m first (k + 1)) (sym is) (made-more v.trail now.trail c.args.owner m first k d made detail);
+      plain = λ plain.
+          let here = c.loop-k.invariant.plain plain in
+          subst (λ (t : Trail). AreTagged t) (sym is)
+          (plain-field now.trail (first + k) c.args.owner d here (plain-at now.trail m k d here c.detail_at-detail.ensures.value));
       heap = c.new_field.ensures.heap;
       goes = goes-on c.args.h.now.desk c.loop-k.h.desk c.new_field.new.h.desk c.loop-k.invariant.goes
-          (goes-on c.loop-k.h.desk c.detail_of_entry-detail.new.h.desk c.new_field.new.h.desk c.detail_of_entry-detail.ensures.goes c.new_field.ensures.goes);
+          (goes-on c.loop-k.h.desk c.detail_at-detail.new.h.desk c.new_field.new.h.desk c.detail_at-detail.ensures.goes c.new_field.ensures.goes);
       went = on c.args.h.now.pace c.loop-k.h.pace c.new_field.new.h.pace c.args.h.now.desk.trail c.loop-k.h.desk.trail c.new_field.new.h.desk.trail c.loop-k.invariant.went
-          (on c.loop-k.h.pace c.detail_of_entry-detail.new.h.pace c.new_field.new.h.pace c.loop-k.h.desk.trail c.detail_of_entry-detail.new.h.desk.trail c.new_field.new.h.desk.trail c.detail_of_entry-detail.ensures.went c.new_field.ensures.went);
+          (on c.loop-k.h.pace c.detail_at-detail.new.h.pace c.new_field.new.h.pace c.loop-k.h.desk.trail c.detail_at-detail.new.h.desk.trail c.new_field.new.h.desk.trail c.detail_at-detail.ensures.went c.new_field.ensures.went);
     }
 
 pub returns-clause-made : goal.returns-clause-made

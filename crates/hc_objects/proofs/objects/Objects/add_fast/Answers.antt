@@ -1,6 +1,6 @@
-use Rattle.std.proofs.Common.{◌≡◌, ◌∙◌, Some, ap, sym, subst}
+use Rattle.std.proofs.Common.{◌≡◌, false, ◌∙◌, Some, ap, sym, subst}
 use Rattle.std.specs.Prelude.{IsSome}
-use Rattle.hc_heap.specs.Readings.{gate_in}
+use Rattle.hc_heap.specs.Readings.{gate_in, root_in}
 use Rattle.hc_heap.specs.Frames.{goes-on}
 use Rattle.hc_heap.specs.States.{View, HeapState}
 use Rattle.hc_table.specs.Changes.{Added}
@@ -8,6 +8,9 @@ use Rattle.hc_objects.specs.Came.{Steps}
 use Rattle.hc_objects.specs.State.{ObjectsState}
 use Rattle.hc_objects.proofs.Adding.{call-ready, call-sound, call-world, call-room, call-needs, call-protos}
 use Rattle.hc_objects.proofs.Shown.{fast-has}
+use Rattle.hc_objects.specs.Filling.{IsMoved}
+use Rattle.hc_objects.specs.Rest.{Marks}
+use Rattle.hc_objects.proofs.Marking.{grown-marks}
 use Rattle.hc_objects.proofs.objects.Objects.add_fast.Goals as goal
 
 pub map_of-map-requires : goal.map_of-map-requires
@@ -99,3 +102,14 @@ returns-clause-protos g c =
     let gate : gate_in c.map_of-map.new.h.view.trail c.map_of-map.result ≡ Some c.unwrap-gate.result = sym c.gate.ensures.value ∙ c.unwrap-gate.ensures in
     call-protos _ _ c.args.o c.args.p c.self.view_is c.self.invariant c.requires.object c.requires.fast c.requires.shared c.map_of-map.new.h.view c.gate.new.self.view c.map_of-map.result c.unwrap-gate.result read again c.map_of-map.ensures.map gate c.maps_are_kept.ensures.law c.details_rise.ensures.law c.trees_stay.ensures.law c.unused_says_nothing.ensures.law c.changes_keep.ensures.law c.grow_object.new.h.view c.grow_object.result c.grow_object.ensures.moved
     (λ no. ap (λ (s : HeapState g.row.P.Denot). s.view) (c.grow_object.ensures.still no))
+
+pub returns-clause-marks : goal.returns-clause-marks
+returns-clause-marks g c = λ yes.
+    let v = c.self.inside.heap.view in
+    let w = c.grow_object.new.h.view in
+    let m = c.map_of-map.result in
+    let n = c.unwrap-gate.result.entries in
+    let same : c.gate.new.self.view ≡ v = ap (λ (s : HeapState g.row.P.Denot). s.view) c.gate.ensures.new ∙ ap (λ (s : HeapState g.row.P.Denot). s.view) c.map_of-map.ensures.new in
+    let shared : (root_in v.trail c.args.o).is_proto ≡ false = subst (λ (s : ObjectsState g.row.P.Denot). (root_in s.heap.view.trail c.args.o).is_proto ≡ false) (sym c.self.view_is) c.requires.shared in
+    subst (λ (s : ObjectsState g.row.P.Denot). Marks s.heap.view.trail w.trail c.args.o) c.self.view_is
+    (grown-marks v w c.args.o m n c.args.p c.map_of-map.ensures.map shared (subst (λ (x : View). IsMoved x w c.args.o m n c.args.p) same (c.grow_object.ensures.moved yes)))

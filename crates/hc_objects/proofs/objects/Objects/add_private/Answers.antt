@@ -8,6 +8,9 @@ use Rattle.hc_objects.specs.State.{ObjectsState}
 use Rattle.hc_objects.proofs.AddingAlone.{call-alone-sound, call-alone-world, call-may-take}
 use Rattle.hc_objects.proofs.Linking.{call-owner}
 use Rattle.hc_objects.proofs.Shown.{fast-has}
+use Rattle.hc_objects.specs.Privates.{IsGrownAlone}
+use Rattle.hc_objects.specs.Rest.{Marks}
+use Rattle.hc_objects.proofs.Marking.{alone-marks}
 use Rattle.hc_objects.proofs.objects.Objects.add_private.Goals as goal
 
 pub map_of-map-requires : goal.map_of-map-requires
@@ -71,3 +74,13 @@ returns-clause-added g c = λ yes.
           (goes-on c.map_of-map.new.h.desk c.gate.new.self.desk c.grow_alone.new.h.desk c.gate.ensures.goes c.grow_alone.ensures.goes);
       went = on _ _ _ _ _ _ c.map_of-map.ensures.went (on _ _ _ _ _ _ c.gate.ensures.went c.grow_alone.ensures.went);
     })
+
+pub returns-clause-marks : goal.returns-clause-marks
+returns-clause-marks g c = λ yes.
+    let v = c.self.inside.heap.view in
+    let w = c.grow_alone.new.h.view in
+    let m = c.map_of-map.result in
+    let n = c.unwrap-gate.result.entries in
+    let same : c.gate.new.self.view ≡ v = ap (λ (s : HeapState g.row.P.Denot). s.view) c.gate.ensures.new ∙ ap (λ (s : HeapState g.row.P.Denot). s.view) c.map_of-map.ensures.new in
+    subst (λ (s : ObjectsState g.row.P.Denot). Marks s.heap.view.trail w.trail c.args.o) c.self.view_is
+    (alone-marks v w c.args.o m n c.args.p c.map_of-map.ensures.map (subst (λ (x : View). IsGrownAlone x w c.args.o m n c.args.p) same (c.grow_alone.ensures.grown yes)))

@@ -73,10 +73,5 @@ returns-clause-number g c =
 
 pub returns-clause-did : goal.returns-clause-did
 returns-clause-did g c =
-    let a = c.args.self.now in
-    let mid = c.spare_of.new.self in
-    let begun = c.create_slow.new.self in
-    let o = c.in-Ok-create_slow.object in
-    let named = c.settle_named.new.self in
-    let it : IsReady g.P.Pace.went g.met.P.Pace.goes_on a c.args.proto o named = ready g.P.Pace.went g.met.P.Pace.goes_on a begun named c.args.proto o mid c.in-Ok.ensures.still c.in-Ok-create_slow.ensures.begun c.requires c.settle_named.ensures.named in
-    created g.P.Pace.went g.met.P.Pace.goes_on a named c.args.proto o c.requires it c.enter_root.new.self c.enter_root.ensures.entered
+    created g.P.Pace.went g.met.P.Pace.goes_on g.met.P.Pace.stays c.args.self.now c.create_slow.new.self c.settle_named.new.self c.enter_root.new.self c.in-Ok-create_slow.object c.spare_of.new.self c.in-Ok.ensures.still
+    c.args.proto c.requires c.in-Ok-create_slow.ensures.begun c.settle_named.ensures.named c.settle_named.ensures.none c.settle_named.ensures.how c.stands.ensures.sound.heap.lawful c.enter_root.ensures.entered

@@ -3,11 +3,10 @@ use Rattle.std.proofs.lemmas.Result.{on_err_weaker}
 use Rattle.hc_layout.specs.declared.words.RootWord.{RootWord}
 use Rattle.hc_heap.specs.Readings.{root_in}
 use Rattle.hc_heap.specs.States.{HeapState}
-use Rattle.hc_table.specs.Changes.{Moved}
 use Rattle.hc_objects.specs.State.{ObjectsState}
-use Rattle.hc_objects.specs.Came.{Made}
-use Rattle.hc_objects.proofs.Adds.{left-moved}
-use Rattle.hc_objects.proofs.Composing.{but-on}
+use Rattle.hc_objects.specs.Came.{Moves}
+use Rattle.hc_objects.proofs.Adds.{left-lawful}
+use Rattle.hc_objects.proofs.Composing.{but-on, left-moves}
 use Rattle.hc_objects.proofs.objects.Objects.leave_and_add.Goals as goal
 
 pub returns-clause-others : goal.returns-clause-others
@@ -18,6 +17,8 @@ returns-clause-protos g c = λ q. ap (λ (h : HeapState g.row.P.Denot). (root_in
 
 pub returns-clause-moved : goal.returns-clause-moved
 returns-clause-moved g c = on_err_weaker c.add_slow.result
-    (λ same. subst (λ (s : ObjectsState g.row.P.Denot). Made g.P.Pace.went c.args.self.now Moved s) (sym same)
-    (left-moved g.P.Pace.went c.args.self.now c.leave.new.self c.args.o c.in_ok-leave.ensures.moved c.requires.fast c.leave.ensures.others c.leave.ensures.used (λ q. ap (λ (r : RootWord). r.is_proto) (c.leave.ensures.roots q))))
+    (λ same. subst (λ (s : ObjectsState g.row.P.Denot). Moves g.P.Pace.went c.args.self.now s) (sym same)
+    (left-moves g.P.Pace.went c.args.self.now c.leave.new.self c.args.o c.args.cause
+    (left-lawful g.P.Pace.went c.args.self.now c.leave.new.self c.args.o c.args.cause c.in_ok-leave.ensures.moved c.requires.fast c.requires.why c.in_ok-leave.ensures.cause c.leave.ensures.others c.leave.ensures.used
+    (λ q. ap (λ (r : RootWord). r.is_proto) (c.leave.ensures.roots q)) c.in_ok-leave.ensures.marks c.stands.ensures.sound)))
     c.add_slow.ensures.err

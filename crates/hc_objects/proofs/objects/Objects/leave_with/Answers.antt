@@ -1,4 +1,4 @@
-use Rattle.std.proofs.Common.{◌≡◌, ◌∙◌, ◌<◌, ◌≤◌, ◌∷◌, Option, Some, None, length, set, ap, sym, subst, arith}
+use Rattle.std.proofs.Common.{◌≡◌, ◌∙◌, ◌<◌, ◌≤◌, ◌∷◌, Option, Some, None, length, set, refl, ap, sym, subst, arith, Bool, cond, eq-eqb}
 use Rattle.std.specs.Prelude.{option_map}
 use Rattle.hc_heap.specs.Writes.{ObjectMap}
 use Rattle.hc_heap.specs.Readings.{map_in}
@@ -14,6 +14,9 @@ use Rattle.hc_objects.specs.State.{ObjectsState}
 use Rattle.hc_objects.proofs.Items.{kept-set_here}
 use Rattle.hc_objects.proofs.Left.{unmoved-one, unmoved-goes, unmoved-went, fast-is, map-used, left-world, left-sound}
 use Rattle.hc_objects.proofs.Shown.{fast-has, within}
+use Rattle.hc_objects.specs.Rest.{Marks}
+use Rattle.hc_objects.proofs.Marking.{left-marks}
+use mathlib.Core.Logic.{inr}
 use Rattle.hc_objects.proofs.objects.Objects.leave_with.Goals as goal
 
 pub map_of-map-requires : goal.map_of-map-requires
@@ -116,3 +119,19 @@ returns-clause-cause g c =
     let fast : kept_of kept o ≡ None = subst (λ (s : ObjectsState g.row.P.Denot). kept_of s.kept c.args.o ≡ None) (sym c.self.view_is) c.requires.fast in
     let d = c.args.slow in
     ap (λ (x : Option Dictionary). option_map (λ y. y.cause) x) (kept-set_here kept o (Some d) there)
+
+pub returns-clause-marks : goal.returns-clause-marks
+returns-clause-marks g c =
+    let v = c.self.inside.heap.view in
+    let o = c.args.o in
+    let again : c.map_of-map.new.h.view ≡ v = ap (λ (s : HeapState g.row.P.Denot). s.view) c.map_of-map.ensures.new in
+    let m = c.map_of-map.result in
+    let is : c.leave_map.new.h.view ≡ record v { trail = ObjectMap o None ∷ marked v.trail m } = c.leave_map.ensures.view ∙ ap (λ (w : View). let x : View = record w { trail = ObjectMap o None ∷ marked w.trail m } in x) again in
+    subst (λ (s : ObjectsState g.row.P.Denot). Marks s.heap.view.trail c.leave_map.new.h.view.trail o) c.self.view_is
+    (left-marks v c.leave_map.new.h.view o m None is c.map_of-map.ensures.map (λ e. let f : ⊥ = cc in f) (inr refl))
+
+pub returns-clause-gone : goal.returns-clause-gone
+returns-clause-gone g c =
+    let o = c.args.o in
+    ap (λ (w : View). map_in w.trail o) c.leave_map.ensures.view
+    ∙ ap (λ (b : Bool). cond b None (map_in (marked c.map_of-map.new.h.view.trail c.map_of-map.result) o)) (eq-eqb o o refl)

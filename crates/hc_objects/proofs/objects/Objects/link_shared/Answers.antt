@@ -7,6 +7,9 @@ use Rattle.hc_objects.specs.Came.{Steps}
 use Rattle.hc_objects.specs.State.{ObjectsState}
 use Rattle.hc_objects.proofs.Linked.{call-linkable, call-may, call-room, call-world, call-sound, call-needs, call-protos}
 use Rattle.hc_objects.proofs.Shown.{fast-has}
+use Rattle.hc_objects.specs.Rest.{StartsByMark}
+use Rattle.hc_objects.specs.Linking.{IsRelinked}
+use Rattle.hc_objects.proofs.Marking.{maps-kept, starts-by}
 use Rattle.hc_objects.proofs.objects.Objects.link_shared.Goals as goal
 
 pub map_of-map-requires : goal.map_of-map-requires
@@ -86,3 +89,14 @@ returns-clause-protos g c =
     let gate : gate_in c.map_of-map.new.h.view.trail c.map_of-map.result ≡ Some c.unwrap-gate.result = sym c.gate.ensures.value ∙ c.unwrap-gate.ensures in
     call-protos _ _ c.args.o c.args.proto c.self.view_is c.self.invariant c.requires.object c.requires.fast c.requires.shared c.map_of-map.new.h.view c.gate.new.self.view c.map_of-map.result c.unwrap-gate.result read again c.map_of-map.ensures.map gate c.maps_are_kept.ensures.law c.details_rise.ensures.law c.gates_are_open.ensures.law c.changes_keep.ensures.law c.link_object.new.h.view c.link_object.new.of_null c.link_object.result c.link_object.ensures.relinked
     (λ no. ap (λ (s : HeapState g.row.P.Denot). s.view) (c.link_object.ensures.still no))
+
+pub returns-clause-starts : goal.returns-clause-starts
+returns-clause-starts g c = λ yes.
+    let v = c.self.inside.heap.view in
+    let w = c.link_object.new.h.view in
+    let m = c.map_of-map.result in
+    let n = c.unwrap-gate.result.entries in
+    let same : c.gate.new.self.view ≡ v = ap (λ (s : HeapState g.row.P.Denot). s.view) c.gate.ensures.new ∙ ap (λ (s : HeapState g.row.P.Denot). s.view) c.map_of-map.ensures.new in
+    let it : IsRelinked v w c.self.inside.of_null c.link_object.new.of_null c.args.o m n c.args.proto = subst (λ (x : View). IsRelinked x w c.self.inside.of_null c.link_object.new.of_null c.args.o m n c.args.proto) same (c.link_object.ensures.relinked yes) in
+    subst (λ (s : ObjectsState g.row.P.Denot). StartsByMark s.heap.view.trail w.trail c.args.o) c.self.view_is
+    (starts-by v.trail w.trail c.args.o m it.more c.map_of-map.ensures.map it.after (maps-kept v w c.args.o it.changed))

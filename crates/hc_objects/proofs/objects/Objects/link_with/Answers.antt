@@ -19,5 +19,5 @@ returns-in-Some g c =
     let link = c.link_slow.ensures in
     record {
       linked = left-linked g.P.Pace.went g.met.P.Pace.goes_on a c.leave_with.new.self c.link_slow.new.self c.args.o c.args.proto d c.requires.fast full.full full.cause
-          left.moved left.cause left.others left.used left.roots link.steps link.heap link.others link.cause;
+          left.moved left.cause left.others left.used left.roots left.marks link.steps link.heap link.others link.cause;
     }

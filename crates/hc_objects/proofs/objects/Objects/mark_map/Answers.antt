@@ -5,7 +5,7 @@ use Rattle.hc_heap.specs.Frames.{goes-on}
 use Rattle.hc_heap.specs.States.{HeapState, View, IsHeap}
 use Rattle.hc_tree.specs.Growth.{marked}
 use Rattle.hc_tree.specs.Tree.{IsTree}
-use Rattle.hc_objects.specs.Inheriting.{IsMarked}
+use Rattle.hc_objects.specs.Came.{IsMarked}
 use Rattle.hc_objects.specs.Meaning.{kept_of, world}
 use Rattle.hc_objects.specs.State.{ObjectsState, IsObjects}
 use Rattle.hc_objects.proofs.Left.{map-used, marked-same}
@@ -49,7 +49,7 @@ returns g c =
     let there : c.args.o < length kept = within _ _ c.args.o c.self.view_is c.requires.object in
     let fast : kept_of kept c.args.o ≡ None = subst (λ (s : ObjectsState g.row.P.Denot). kept_of s.kept c.args.o ≡ None) (sym c.self.view_is) c.requires.fast in
     let after : ObjectsState g.row.P.Denot = record { heap = c.mark_unstable.new.h; kept = kept; of_null = c.self.inside.of_null } in
-    subst (λ (s : ObjectsState g.row.P.Denot). record { marked : IsMarked g.P.Pace.went s after }) c.self.view_is (record {
+    subst (λ (s : ObjectsState g.row.P.Denot). record { marked : IsMarked g.P.Pace.went s c.args.o after }) c.self.view_is (record {
       marked = record {
         steps = record {
           world = ap (λ (w : View). world w.trail kept) is
@@ -59,6 +59,10 @@ returns g c =
           goes = goes-on c.self.inside.heap.desk c.map_of-map.new.h.desk c.mark_unstable.new.h.desk c.map_of-map.ensures.goes c.mark_unstable.ensures.goes;
           went = g.met.P.Pace.goes_on _ _ _ _ _ _ c.map_of-map.ensures.went c.mark_unstable.ensures.went;
         };
+        map = m;
+        has = c.map_of-map.ensures.map;
+        trail = ap (λ (w : View). w.trail) is;
+        lawful = c.mark_unstable.ensures.heap.lawful;
         kept = refl;
         null = refl;
         used = ap (λ (w : View). w.used) is;

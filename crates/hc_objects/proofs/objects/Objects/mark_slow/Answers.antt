@@ -1,13 +1,15 @@
-use Rattle.std.proofs.Common.{◌≡◌, ◌<◌, length, ap, sym, subst}
-use Rattle.std.specs.Prelude.{IsSome}
+use Rattle.std.proofs.Common.{◌≡◌, ◌<◌, length, ap, sym, subst, Option, None, Some, refl}
+use Rattle.hc_heap.specs.Readings.{map_in}
+use Rattle.hc_objects.proofs.Marking.{how-left, words-same}
+use Rattle.std.specs.Prelude.{IsSome, option_map}
 use Rattle.hc_heap.specs.States.{View, IsHeap}
 use Rattle.hc_tree.specs.Tree.{IsTree}
 use Rattle.hc_table.specs.Changes.{Moved}
 use Rattle.hc_objects.specs.Becoming.{HasBecome, with_proto}
-use Rattle.hc_objects.specs.Came.{Steps}
-use Rattle.hc_objects.specs.Meaning.{kept_of, world}
+use Rattle.hc_objects.specs.Came.{Steps, HowBecame}
+use Rattle.hc_objects.specs.Meaning.{kept_of, world, Dictionary, cause_in}
 use Rattle.hc_objects.specs.State.{ObjectsState, IsObjects}
-use Rattle.hc_objects.proofs.Prototypes.{became-proto, slow-proto-sound, slow-proto-world}
+use Rattle.hc_objects.proofs.Prototypes.{became-proto, slow-proto-sound, slow-proto-world, slow-none}
 use Rattle.hc_objects.proofs.Rising.{some-of}
 use Rattle.hc_objects.proofs.Shown.{within}
 use Rattle.hc_objects.proofs.objects.Objects.mark_slow.Goals as goal
@@ -52,3 +54,22 @@ returns-clause-became g c =
     let p = c.args.p in
     subst (λ (s : ObjectsState g.row.P.Denot). HasBecome p s.heap.view.trail c.set_is_proto.new.h.view.trail) c.self.view_is
     (subst (λ (w : View). HasBecome p v.trail w.trail) (sym c.set_is_proto.ensures.view) (became-proto v.trail p))
+
+pub returns-clause-trail : goal.returns-clause-trail
+returns-clause-trail g c = subst (λ (s : ObjectsState g.row.P.Denot). c.set_is_proto.new.h.view.trail ≡ with_proto s.heap.view.trail c.args.p) c.self.view_is (ap (λ (w : View). w.trail) c.set_is_proto.ensures.view)
+
+pub returns-clause-how : goal.returns-clause-how
+returns-clause-how g c =
+    let v = c.self.inside.heap.view in
+    let kept = c.self.inside.kept.items in
+    let null = c.self.inside.of_null in
+    let p = c.args.p in
+    let there : p < length kept = within _ _ p c.self.view_is c.requires.object in
+    let slow = some-of (kept_of kept p) (subst (λ (s : ObjectsState g.row.P.Denot). IsSome (kept_of s.kept p)) (sym c.self.view_is) c.requires.slow) in
+    let none : map_in v.trail p ≡ None = slow-none v kept null c.self.invariant p there slow.0 slow.1 in
+    let is = ap (λ (w : View). w.trail) c.set_is_proto.ensures.view in
+    let cause : cause_in kept p ≡ Some slow.0.cause = ap (λ (d : Option Dictionary). option_map (λ x. x.cause) d) slow.1 in
+    let before : ObjectsState g.row.P.Denot = record { heap = c.self.inside.heap; kept = kept; of_null = null } in
+    let after : ObjectsState g.row.P.Denot = record { heap = c.set_is_proto.new.h; kept = kept; of_null = null } in
+    subst (λ (s : ObjectsState g.row.P.Denot). HowBecame s p after) c.self.view_is
+    (how-left before before after p slow.0.cause none (words-same v.trail v.trail p refl) is cause)

@@ -16,8 +16,8 @@ map_of-map-requires g c =
           (subst (λ (s : ObjectsState g.row.P.Denot). kept_of s.kept c.args.p ≡ None) (sym still.is) (c.is_slow.ensures.fast c.if-is_slow.false));
     }
 
-pub own_need-requires : goal.own_need-requires
-own_need-requires g c =
+pub of_copy-requires : goal.of_copy-requires
+of_copy-requires g c =
     let read : c.map_of-map.new.h.view ≡ c.self.inside.heap.view = ap (λ (s : HeapState g.row.P.Denot). s.view) c.map_of-map.ensures.new in
     let gate : gate_in c.self.inside.heap.view.trail c.map_of-map.result ≡ Some c.unwrap-n.result = subst (λ (w : View). gate_in w.trail c.map_of-map.result ≡ Some c.unwrap-n.result) read (sym c.gate.ensures.value ∙ c.unwrap-n.ensures) in
     record { few = (c.gates_are_open.ensures.law c.self.inside.heap.view.shape c.self.inside.heap.view.trail c.map_of-map.result c.unwrap-n.result c.self.invariant.heap.lawful gate).few }

@@ -1,4 +1,5 @@
 use Rattle.std.proofs.Common.{◌≡◌, ◌<◌, true, false, None, length, ap, sym, ◌∙◌, subst, arith}
+use Rattle.hc_objects.proofs.Marking.{owned-copy, owned-marks}
 use Rattle.hc_heap.specs.Frames.{goes-on}
 use Rattle.hc_heap.specs.States.{View, HeapState}
 use Rattle.hc_heap.specs.Readings.{root_in}
@@ -8,7 +9,7 @@ use Rattle.hc_tree.specs.Copying.{copy_need}
 use Rattle.hc_tree.specs.Needs.{HasSpace, with_need}
 use Rattle.hc_table.specs.Changes.{Moved}
 use Rattle.hc_objects.specs.Becoming.{HasBecome, IsOwned}
-use Rattle.hc_objects.specs.Came.{Steps}
+use Rattle.hc_objects.specs.Came.{Steps, HowBecame}
 use Rattle.hc_objects.specs.Meaning.{kept_of}
 use Rattle.hc_objects.specs.State.{ObjectsState, HasMap}
 use Rattle.hc_objects.specs.Modes.{proto_need}
@@ -113,3 +114,15 @@ returns-clause-used g c =
     let it : IsOwned v c.take_own_map.new.h.view p m = subst (λ (w : View). IsOwned w c.take_own_map.new.h.view p m) read c.take_own_map.ensures.owned in
     subst (λ (s : ObjectsState g.row.P.Denot). c.take_own_map.new.h.view.used ≡ with_need (proto_need s.heap.view.trail p) s.heap.view.used) c.self.view_is
     (it.used ∙ ap (λ (n : Need). with_need n v.used) (sym need))
+
+pub returns-clause-how : goal.returns-clause-how
+returns-clause-how g c =
+    let v = c.self.inside.heap.view in
+    let p = c.args.p in
+    let m = c.map_of-map.result in
+    let read : c.map_of-map.new.h.view ≡ v = ap (λ (s : HeapState g.row.P.Denot). s.view) c.map_of-map.ensures.new in
+    let new = c.take_own_map.new.h.view in
+    let it : IsOwned v new p m = subst (λ (w : View). IsOwned w new p m) read c.take_own_map.ensures.owned in
+    let after : ObjectsState g.row.P.Denot = record { heap = c.take_own_map.new.h; kept = c.self.inside.kept.items; of_null = c.self.inside.of_null } in
+    subst (λ (s : ObjectsState g.row.P.Denot). HowBecame s p after) c.self.view_is
+    (record { marks = owned-marks v new p m c.map_of-map.ensures.map it; owns = λ k is shared fast. owned-copy v new p m k c.map_of-map.ensures.map it is })

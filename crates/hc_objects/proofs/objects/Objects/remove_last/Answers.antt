@@ -14,8 +14,11 @@ use Rattle.hc_objects.specs.Meaning.{kept_of, world}
 use Rattle.hc_objects.specs.State.{ObjectsState}
 use Rattle.hc_objects.proofs.Shown.{within}
 use Rattle.hc_objects.proofs.Sound.{some-is}
-use Rattle.hc_objects.proofs.Shrinking.{has-parent, map-there, parent-there, parent-filled, shrunk-world, shrunk-sound}
+use Rattle.hc_objects.proofs.Shrinking.{has-parent, map-there, parent-there, parent-filled, shrunk-world, shrunk-sound, parent-other}
 use Rattle.hc_objects.proofs.Writing.{Laws, has-map}
+use Rattle.hc_objects.specs.Rest.{Marks}
+use Rattle.hc_objects.proofs.Marking.{left-marks}
+use mathlib.Core.Logic.{inl}
 use Rattle.hc_objects.proofs.objects.Objects.remove_last.Goals as goal
 
 pub map_of-map-requires : goal.map_of-map-requires
@@ -200,3 +203,26 @@ returns-clause-steps g c =
       goes = goes-on first.desk c.map_of-map.new.h.desk c.move_to_parent.new.h.desk c.map_of-map.ensures.goes (goes-on c.map_of-map.new.h.desk c.parent.new.self.desk c.move_to_parent.new.h.desk c.parent.ensures.goes c.move_to_parent.ensures.goes);
       went = g.met.P.Pace.goes_on _ _ _ _ _ _ c.map_of-map.ensures.went (g.met.P.Pace.goes_on _ _ _ _ _ _ c.parent.ensures.went c.move_to_parent.ensures.went);
     })
+
+pub returns-clause-marks : goal.returns-clause-marks
+returns-clause-marks g c =
+    let v = c.self.inside.heap.view in
+    let kept = c.self.inside.kept.items in
+    let null = c.self.inside.of_null in
+    let o = c.args.o in
+    let there : o < length kept = within _ _ o c.self.view_is c.requires.object in
+    let fast : kept_of kept o ≡ None = subst (λ (s : ObjectsState g.row.P.Denot). kept_of s.kept c.args.o ≡ None) (sym c.self.view_is) c.requires.fast in
+    let laws : Laws = record { maps = c.maps_are_kept.ensures.law; details = c.details_rise.ensures.law; trees = c.trees_stay.ensures.law; unused = c.unused_says_nothing.ensures.law; gates = c.gates_are_open.ensures.law; changes = c.changes_keep.ensures.law } in
+    let shared : (root_in v.trail o).is_proto ≡ false = subst (λ (s : ObjectsState g.row.P.Denot). (root_in s.heap.view.trail c.args.o).is_proto ≡ false) (sym c.self.view_is) c.requires.shared in
+    let some : 0 < length (props_at (world v.trail kept) o) = subst (λ (s : ObjectsState g.row.P.Denot). 0 < length (props_at (world s.heap.view.trail s.kept) c.args.o)) (sym c.self.view_is) c.requires.some in
+    let read : c.map_of-map.new.h.view ≡ v = ap (λ (s : HeapState g.row.P.Denot). s.view) c.map_of-map.ensures.new in
+    let m = c.map_of-map.result in
+    let is_map = c.map_of-map.ensures.map in
+    let e : c.parent.result ≡ parent_in v.trail m = c.parent.ensures.value ∙ ap (λ (w : View). parent_in w.trail m) read in
+    let again : c.parent.new.self.view ≡ v = ap (λ (s : HeapState g.row.P.Denot). s.view) c.parent.ensures.new ∙ read in
+    let q = c.unwrap-parent.result in
+    let is_parent : parent_in v.trail m ≡ Some (Some q) = sym e ∙ c.unwrap.ensures ∙ ap (λ (x : Option ℕ). Some x) c.unwrap-parent.ensures in
+    let new = c.move_to_parent.new.h.view in
+    let is : new ≡ record v { trail = ObjectMap o (Some q) ∷ marked v.trail m } = c.move_to_parent.ensures.view ∙ ap (λ (w : View). let x : View = record w { trail = ObjectMap o (Some q) ∷ marked w.trail m } in x) again in
+    subst (λ (s : ObjectsState g.row.P.Denot). Marks s.heap.view.trail new.trail o) c.self.view_is
+    (left-marks v new o m (Some q) is is_map (parent-other laws v kept null c.self.invariant o there fast shared some m q is_map is_parent) (inl shared))

@@ -2,7 +2,7 @@ use Rattle.std.proofs.Common.{◌≡◌, ℕ, ◌+◌, ◌<◌, Option, Some, No
 use Rattle.std.specs.Prelude.{IsSomeAnd}
 use Rattle.hc_value.specs.Prop.{kind_of}
 use Rattle.hc_heap.specs.Writes.{Slot}
-use Rattle.hc_heap.specs.Readings.{store_in}
+use Rattle.hc_heap.specs.Readings.{bits_in, map_in, store_in}
 use Rattle.hc_heap.specs.States.{View, with_write}
 use Rattle.hc_table.specs.Changes.{Wrote, kind_at}
 use Rattle.hc_table.specs.World.{props_at}
@@ -11,6 +11,8 @@ use Rattle.hc_objects.specs.Meaning.{kept_of, world}
 use Rattle.hc_objects.proofs.Shown.{within}
 use Rattle.hc_objects.specs.State.{ObjectsState}
 use Rattle.hc_objects.proofs.Writing.{Laws, slot-there, write-world, write-sound}
+use Rattle.hc_objects.specs.Rest.{Marks}
+use Rattle.hc_objects.proofs.Marking.{same-marks}
 use Rattle.hc_objects.proofs.objects.Objects.write_fast.Goals as goal
 
 used-same : (old new : View) (i w : ℕ) (first : Option ℕ) → IsSomeAnd first (λ x. new ≡ with_write old (Slot (x + i) w)) → new.used.objects ≡ old.used.objects
@@ -20,6 +22,10 @@ used-same old new i w None e = absurd e
 shape-same : (old new : View) (i w : ℕ) (first : Option ℕ) → IsSomeAnd first (λ x. new ≡ with_write old (Slot (x + i) w)) → new.shape ≡ old.shape
 shape-same old new i w (Some x) e = ap (λ (v : View). v.shape) e
 shape-same old new i w None e = absurd e
+
+marks-same : (old new : View) (o i w : ℕ) (first : Option ℕ) → IsSomeAnd first (λ x. new ≡ with_write old (Slot (x + i) w)) → Marks old.trail new.trail o
+marks-same old new o i w (Some x) e = same-marks old.trail new.trail o (λ m. ap (λ (v : View). bits_in v.trail m) e) (λ q. ap (λ (v : View). map_in v.trail q) e)
+marks-same old new o i w None e = absurd e
 
 pub put_slot-requires-clause-within : goal.put_slot-requires-clause-within
 put_slot-requires-clause-within g c =
@@ -60,3 +66,9 @@ returns-clause-steps g c =
       goes = c.put_slot.ensures.goes;
       went = c.put_slot.ensures.went;
     })
+
+pub returns-clause-marks : goal.returns-clause-marks
+returns-clause-marks g c =
+    let old = c.self.inside.heap.view in
+    subst (λ (s : ObjectsState g.row.P.Denot). Marks s.heap.view.trail c.put_slot.new.h.view.trail c.args.o) c.self.view_is
+    (marks-same old c.put_slot.new.h.view c.args.o c.args.i c.held_word-word.result (store_in old.trail c.args.o).first c.put_slot.ensures.view)

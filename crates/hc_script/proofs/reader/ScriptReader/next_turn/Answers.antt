@@ -1,5 +1,5 @@
 use Rattle.hc_script.specs.ReaderView.{reader_of}
-use Rattle.hc_script.specs.Fetch.{IsFirstLine}
+use Rattle.hc_lines.specs.Fetch.{IsFirstLine}
 use Rattle.hc_script.proofs.Taking.{takes_turn, fails_turn}
 use Rattle.hc_script.proofs.reader.ScriptReader.next_turn.Given.{Over}
 use Rattle.hc_script.proofs.reader.ScriptReader.next_turn.Goals as goal

@@ -1,5 +1,5 @@
 use Rattle.std.proofs.Common.{◌∙◌, arith}
-use Rattle.hc_script.specs.Lines.{ahead}
+use Rattle.hc_lines.specs.Lines.{ahead}
 use Rattle.hc_script.proofs.Passing.{has_passed_more, serves_command, serves_fault}
 use Rattle.hc_script.proofs.reader.ScriptReader.seek_command.Goals as goal
 

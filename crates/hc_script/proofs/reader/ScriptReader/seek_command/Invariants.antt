@@ -1,6 +1,6 @@
 use Rattle.std.proofs.Common.{◌≡◌, ◌-◌, ◌≤◌}
-use Rattle.hc_script.specs.Lines.{ahead}
-use Rattle.hc_script.specs.declared.limits.TheConstants.{MAX_BYTES}
+use Rattle.hc_lines.specs.Lines.{ahead}
+use Rattle.hc_lines.specs.declared.limits.TheConstants.{MAX_BYTES}
 use Rattle.hc_script.proofs.Passing.{HasPassed}
 use Rattle.hc_script.proofs.reader.ScriptReader.seek_command.Given as goal
 

@@ -3,7 +3,7 @@ use Rattle.std.proofs.lemmas.List.{length-take-le}
 use Rattle.std.proofs.lemmas.Result.{err_from_is_err_and}
 use Rattle.hc_script.specs.ReaderView.{reader_of}
 use Rattle.hc_script.specs.Turn.{IsLineFault}
-use Rattle.hc_script.specs.declared.limits.TheConstants.{MAX_BYTES}
+use Rattle.hc_lines.specs.declared.limits.TheConstants.{MAX_BYTES}
 use Rattle.hc_script.proofs.Turns.{TurnMeans, turn_means, turn_refuses, is_passed, is_asked}
 use Rattle.hc_script.proofs.reader.ScriptReader.take_line.Goals as goal
 

@@ -1,5 +1,0 @@
-use Rattle.std.proofs.Common.{◌≡◌}
-use Rattle.hc_board.proofs.tests.store_upwards.Given as goal
-
-abbrev pub invariant-loop-word : goal.invariant-loop-word
-invariant-loop-word l = (l.writer.board ≡ l.initial.writer.board) × (l.writer.met ≡ l.initial.writer.met)

@@ -1,0 +1,10 @@
+pub mod Apart
+pub mod FieldsApart
+pub mod Fills
+pub mod FirstWord
+pub mod FormsApart
+pub mod NamesAfter
+pub mod Numerals
+pub mod Plain
+pub mod Spelling
+pub mod WordsApart

@@ -1,0 +1,11 @@
+pub mod Asks
+pub mod Definition
+pub mod Grammar
+pub mod Numbers
+pub mod Numeral
+pub mod Request
+pub mod Token
+pub mod Values
+pub mod VerbTable
+pub mod Verbs
+pub mod Words

@@ -1,0 +1,4 @@
+pub mod Chains
+pub mod Deps
+pub mod Skips
+pub mod Laws

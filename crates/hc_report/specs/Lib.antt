@@ -1,0 +1,5 @@
+pub mod Front
+pub mod Named
+pub mod Text
+pub mod Lines
+pub mod Logs

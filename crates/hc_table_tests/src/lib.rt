@@ -1,0 +1,7 @@
+//! Tests of property tables and of dictionaries by themselves. What the operations answer is shown by scripts.
+#![tactic(auto)]
+
+#[cfg(test)]
+mod dictionaries;
+#[cfg(test)]
+mod tables;

@@ -1,8 +1,0 @@
-use Rattle.hc_tree.proofs.Chained.{chain-goes}
-use Rattle.hc_tree.proofs.tests.chain.Goals as goal
-
-pub loop-n-preserved : goal.loop-n-preserved
-loop-n-preserved c =
-    let made = c.in-Ok-child_or_make.ensures in
-    chain-goes c.maps_are_kept.ensures.law c.loop-n.heap.view c.child_or_make.new.h.view c.loop-n.map c.loop-n.n c.in-Ok-child_or_make.child c.data.result
-    c.child_or_make.ensures.shape c.child_or_make.ensures.writes c.child_or_make.ensures.heap c.child_or_make.ensures.tree c.loop-n.invariant made.child c.data.ensures.name made.live
