@@ -1,0 +1,5 @@
+mod Walks
+mod Stepping
+mod Capped
+mod Asking
+mod Owning

@@ -1,0 +1,5 @@
+pub mod Machine
+pub mod Steps
+pub mod Left
+pub mod Jobs
+pub mod Rooms

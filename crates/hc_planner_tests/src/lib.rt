@@ -1,0 +1,7 @@
+//! Tests of the planner over a board that is written by hand: every way, every skip, and words that aren't of their form.
+#![tactic(auto)]
+
+#[cfg(test)]
+mod board;
+#[cfg(test)]
+mod jobs;

@@ -1,0 +1,4 @@
+pub mod Ask
+pub mod Question
+pub mod Told
+pub mod Laws

@@ -1,0 +1,8 @@
+use Rattle.hc_sites.specs.Events.{noted}
+use Rattle.hc_sites.proofs.Folds.{set-is_event}
+use Rattle.hc_sites.proofs.sites.Sites.note.Goals as goal
+
+pub returns : goal.returns
+returns c =
+    set-is_event c.self.inside.states.items c.args.self.now c.args.s (noted c.args.map) c.index_mut-state.result.now c.note.new.self
+    c.self.view_is c.requires.there c.index_mut-state.ensures.value c.note.ensures

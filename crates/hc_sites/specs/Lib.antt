@@ -1,0 +1,4 @@
+pub mod Maps
+pub mod Events
+pub mod State
+pub mod Laws
