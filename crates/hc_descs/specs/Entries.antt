@@ -1,9 +1,10 @@
 -- The entries of a map: its properties in order, each with a key and a field.
 use Rattle.std.specs.Prelude.{◌≡◌, ◌≢◌, ℕ, ◌<◌, ◌≤◌, Option, Some, None, IsSome, IsSomeAnd}
 use Rattle.hc_layout.specs.declared.words.GateWord.{GateWord}
+use Rattle.hc_value.specs.declared.field.Detail.{Detail}
 use Rattle.hc_value.specs.declared.key.Key.{Key}
 use Rattle.hc_heap.specs.Writes.{Trail}
-use Rattle.hc_heap.specs.Readings.{gate_in, base_in, entry_key_in, reference_in}
+use Rattle.hc_heap.specs.Readings.{gate_in, base_in, entry_key_in, reference_in, detail_in}
 use Rattle.hc_heap.specs.Lawful.{IsField, key_from, field_from}
 
 -- the key of a map's k-th entry, if it was written
@@ -13,6 +14,15 @@ key_at t m k = key_from t (base_in t m) k
 -- the field of a map's k-th entry, if it was written
 abbrev pub field_at : Trail → ℕ → ℕ → Option ℕ
 field_at t m k = field_from t (base_in t m) k
+
+-- what a field admits, if it is one and that was written
+abbrev pub detail_of : Trail → Option ℕ → Option Detail
+detail_of t (Some f) = detail_in t f
+detail_of t None = None
+
+-- what the field of a map's k-th entry admits
+abbrev pub detail_at : Trail → ℕ → ℕ → Option Detail
+detail_at t m k = detail_of t (field_at t m k)
 
 -- how many entries a map has; none before its gate is written
 abbrev pub entries_in : Option GateWord → ℕ

@@ -1,6 +1,5 @@
--- The arrays of maps: a new one, and those that stay while a new map is filled; and details that all admit everything.
-use Rattle.std.proofs.Common.{◌≡◌, ℕ, ◌+◌, ◌<◌, ◌≤◌, Bool, true, false, cond, Option, Some, None, ◌∷◌, refl, sym, ap, ◌∙◌, subst, arith, eqb, eqb-true, IsSomeAnd}
-use Rattle.std.proofs.Math.Nat.{le_trans}
+-- The arrays of maps: a new one, and those that stay while a new map is filled; and details that aren't wide.
+use Rattle.std.proofs.Common.{◌≡◌, ℕ, ◌+◌, ◌<◌, Bool, true, false, cond, Option, Some, None, ◌∷◌, refl, sym, ap, ◌∙◌, subst, arith, eqb, eqb-true}
 use Rattle.std.proofs.lemmas.Bool.Decides.{nat_tests}
 use Rattle.hc_layout.specs.Capacity.{cap_of}
 use Rattle.hc_layout.specs.declared.words.ArrayWord.{ArrayWord}
@@ -11,8 +10,8 @@ use Rattle.hc_heap.specs.Kept.{Adds}
 use Rattle.hc_heap.specs.Frames.{same-after}
 use Rattle.hc_heap.specs.States.{AreArraysThere}
 use Rattle.hc_descs.specs.Entries.{AreFree, field_at}
-use Rattle.hc_descs.specs.Copies.{array_for, own_array, HasArray, HasOwnArray, FillsArray}
-use Rattle.hc_tree.specs.Tree.{tagged_field, AreTagged}
+use Rattle.hc_descs.specs.Copies.{array_for, own_array, HasArray, HasOwnArray}
+use Rattle.hc_tree.specs.Tree.{AreNarrow, IsNarrow}
 use Rattle.hc_tree.specs.Copying.{FillsCopy, detail_of, detail_at, with_field}
 
 -- the array of some entries
@@ -101,24 +100,28 @@ module _ (c e f m : ℕ) (apart : c ≡ m → ⊥) where
             };
       }
 
--- Details that all admit everything
+-- Details that aren't wide
 
-detail-case : (t : Trail) (f x : ℕ) (d e : Detail) (b : Bool) → eqb f x ≡ b → AreTagged t → d ≡ tagged_field → cond b (Some d) (detail_in t x) ≡ Some e → e ≡ tagged_field
-detail-case t f x d e true is plain tagged at = let same : d ≡ e = cc in sym same ∙ tagged
-detail-case t f x d e false is plain tagged at = plain x e at
+detail-case : (t : Trail) (f x : ℕ) (d e : Detail) (b : Bool) → eqb f x ≡ b → AreNarrow t → IsNarrow d → cond b (Some d) (detail_in t x) ≡ Some e → IsNarrow e
+detail-case t f x d e true is narrow here at = let same : d ≡ e = cc in subst IsNarrow same here
+detail-case t f x d e false is narrow here at = narrow x e at
 
--- a new field that does
-pub plain-field : (t : Trail) (f c : ℕ) (d : Detail) → AreTagged t → d ≡ tagged_field → AreTagged (with_field t f c d)
-plain-field t f c d plain tagged = λ x e is. detail-case t f x d e (eqb f x) refl plain tagged is
+-- a new field
+pub narrow-field : (t : Trail) (f c : ℕ) (d : Detail) → AreNarrow t → IsNarrow d → AreNarrow (with_field t f c d)
+narrow-field t f c d narrow here = λ x e is. detail-case t f x d e (eqb f x) refl narrow here is
+
+-- a detail that is written
+pub narrow-write : (t : Trail) (f : ℕ) (d : Detail) → AreNarrow t → IsNarrow d → AreNarrow (FieldDetail f d ∷ t)
+narrow-write t f d narrow here = λ x e is. detail-case t f x d e (eqb f x) refl narrow here is
 
 -- where no detail was written
-pub plain-same : (a b : Trail) → ((x : ℕ) → detail_in b x ≡ detail_in a x) → AreTagged a → AreTagged b
-plain-same a b same plain = λ x e is. plain x e (sym (same x) ∙ is)
+pub narrow-same : (a b : Trail) → ((x : ℕ) → detail_in b x ≡ detail_in a x) → AreNarrow a → AreNarrow b
+narrow-same a b same narrow = λ x e is. narrow x e (sym (same x) ∙ is)
 
 -- the detail of an entry's field
-pub plain-at : (t : Trail) (m k : ℕ) (d : Detail) → AreTagged t → detail_at t m k ≡ Some d → d ≡ tagged_field
-plain-at t m k d plain is = by (field_at t m k) is
+pub narrow-at : (t : Trail) (m k : ℕ) (d : Detail) → AreNarrow t → detail_at t m k ≡ Some d → IsNarrow d
+narrow-at t m k d narrow is = by (field_at t m k) is
   where
-    by : (o : Option ℕ) → detail_of t o ≡ Some d → d ≡ tagged_field
-    by (Some f) e = plain f d e
+    by : (o : Option ℕ) → detail_of t o ≡ Some d → IsNarrow d
+    by (Some f) e = narrow f d e
     by None e = let n : ⊥ = cc in absurd n

@@ -13,7 +13,7 @@ use Rattle.hc_value.specs.declared.field.Detail.{Detail}
 use Rattle.hc_heap.specs.Writes.{Write, Trail, Parent, Prototype, Base, Array, EntryKey, Reference, Owner, FieldDetail}
 use Rattle.hc_heap.specs.Readings.{gate_in, parent_in, prototype_in, bits_in, owner_in, detail_in, root_in}
 use Rattle.hc_heap.specs.declared.kind.Kind.TheVariants.{GateOfMap}
-use Rattle.hc_heap.specs.Lawful.{Lawful, LawfulPrototype}
+use Rattle.hc_heap.specs.Lawful.{IsField, Lawful, LawfulPrototype}
 use Rattle.hc_heap.specs.States.{View, AreArraysThere, IsHeap, with_items}
 use Rattle.hc_heap.specs.Kept.{Adds, GoesOn, UnusedSaysNothing, GatesAreOpen, FormsHold}
 use Rattle.hc_heap.specs.Frames.{same-after, adds-one, adds-on, adds-wider}
@@ -22,12 +22,13 @@ use Rattle.hc_descs.specs.Copies.{FillsArray, HasArray, HasOwnArray, HasEntriesO
 use Rattle.hc_links.specs.Chains.{links_in}
 use Rattle.hc_links.specs.Laws.{LinksAreChained}
 use Rattle.hc_tree.specs.Kept.{MapsStay, MapsAreKept}
-use Rattle.hc_tree.specs.Tree.{gate_with, tagged_field, AreTagged, IsProperKey, IsDeadFor, IsSoundMap, IsTree}
+use Rattle.hc_tree.specs.Tree.{gate_with, tagged_field, AreNarrow, IsNarrow, IsProperKey, IsDeadFor, IsSoundMap, IsTree}
+use Rattle.hc_tree.specs.Details.{NoMap, Reshapes}
 use Rattle.hc_tree.specs.Growth.{MayGrow, MakesMap, IsReadyChild}
 use Rattle.hc_tree.specs.Copying.{with_field}
-use Rattle.hc_tree.proofs.Arrays.{filled-array, own-has, plain-field, plain-same}
+use Rattle.hc_tree.proofs.Arrays.{filled-array, own-has, narrow-field, narrow-same}
 use Rattle.hc_tree.proofs.Filled.{array-wider}
-use Rattle.hc_tree.proofs.Keeping.{SameLives, array-kept, tree-kept, dead-all}
+use Rattle.hc_tree.proofs.Keeping.{SameLives, same-lives, array-kept, tree-kept, dead-all}
 use Rattle.hc_tree.proofs.Fresh.{IsNewMap, no-links, self}
 
 -- what an array's writes leave as it was
@@ -93,7 +94,8 @@ pub record IsFilledChild (s : Shape) (old new : Trail) (m c n f first : ℕ) (p 
   pub last : IsEntry new c n key f
   pub proper : IsProperKey key
   pub accessor : key.kind ≡ AccessorProp → d ≡ tagged_field
-  pub plain : d ≡ tagged_field
+  pub narrow : IsNarrow d
+  pub unwritten : owner_in old f ≡ None
   pub lacks : LacksName old m n key.name
 
 module _ (s : Shape) (old new : Trail) (m c n f first : ℕ) (p : Option ℕ) (key : Key) (d : Detail) (law : MapsAreKept) (h : IsFilledChild s old new m c n f first p key d) where
@@ -135,12 +137,12 @@ module _ (s : Shape) (old new : Trail) (m c n f first : ℕ) (p : Option ℕ) (k
       no-gate : (k : GateWord) (o : Option GateWord) → o ≡ None → o ≡ Some k → ⊥
       no-gate k o a b = cc
 
-  plain : AreTagged new
+  narrow : AreNarrow new
   unfolding rest_of
-  plain = plain-same (begun old m c f p d) new (λ x. ap (λ (r : Rest). r.detail) (rest x)) (plain-field old f c d h.tree.plain h.plain)
+  narrow = narrow-same (begun old m c f p d) new (λ x. ap (λ (r : Rest). r.detail) (rest x)) (narrow-field old f c d h.tree.narrow h.narrow)
 
   pub filled-tree : IsTree new
-  filled-tree = tree-kept old new child-kept-all lives links gates roots arrays plain h.tree
+  filled-tree = tree-kept old new child-kept-all (same-lives old new lives) links gates roots arrays narrow h.tree
 
   abbrev g : GateWord
   g = gate_with n false
@@ -179,6 +181,30 @@ module _ (s : Shape) (old new : Trail) (m c n f first : ℕ) (p : Option ℕ) (k
       let admits : d ≡ tagged_field = h.accessor (subst (λ (y : Key). y.kind ≡ AccessorProp) (sym same) kind) in
       subst (λ (y : ℕ). detail_in new y ≡ Some tagged_field) (some-is f x (field_at new c n) h.last.field e) (filled-detail ∙ ap (λ (y : Detail). Some y) admits))
 
+  -- no open map has the new field
+  is-new : (x : ℕ) (k : GateWord) (j y : ℕ) → gate_in old x ≡ Some k → j < k.entries → field_at old x j ≡ Some y → y ≡ f → ⊥
+  is-new x k j y e lt at is =
+      let made = (child-kept-all.opened x k e).entries.fields j lt in
+      no-owner (owner_in old f) h.unwritten (subst (λ (z : ℕ). IsSome (owner_in old z)) is (and-is (λ (z : ℕ). IsField old z) (field_at old x j) y made at).owner)
+    where
+      no-owner : (o : Option ℕ) → o ≡ None → IsSome o → ⊥
+      no-owner (Some z) none some = cc
+      no-owner None none some = cc
+
+  other-place : (i : ℕ) → i < n + 1 → (x : ℕ) (k : GateWord) (j y : ℕ) → gate_in new x ≡ Some k → j < k.entries → field_at new c i ≡ Some y → field_at new x j ≡ Some y → i ≡ j
+  other-place = below_more (λ (i : ℕ). (x : ℕ) (k : GateWord) (j y : ℕ) → gate_in new x ≡ Some k → j < k.entries → field_at new c i ≡ Some y → field_at new x j ≡ Some y → i ≡ j) n
+      (λ i lt x k j y e lj fi fj. let was = sym (gates x) ∙ e in h.tree.places m x g k i j y h.is_open was lt lj (old-field i y lt fi) (sym (child-kept-all.entry x j k was lj).field ∙ fj))
+      (λ x k j y e lj fi fj. let was = sym (gates x) ∙ e in absurd (is-new x k j y was lj (sym (child-kept-all.entry x j k was lj).field ∙ fj) (some-is y f (field_at new c n) fi h.last.field)))
+
+  own-place : (i : ℕ) → i < n + 1 → (j : ℕ) → j < n + 1 → (y : ℕ) → field_at new c i ≡ Some y → field_at new c j ≡ Some y → i ≡ j
+  own-place = below_more (λ (i : ℕ). (j : ℕ) → j < n + 1 → (y : ℕ) → field_at new c i ≡ Some y → field_at new c j ≡ Some y → i ≡ j) n
+      (λ i lt. below_more (λ (j : ℕ). (y : ℕ) → field_at new c i ≡ Some y → field_at new c j ≡ Some y → i ≡ j) n
+      (λ j lj y fi fj. h.tree.places m m g g i j y h.is_open h.is_open lt lj (old-field i y lt fi) (old-field j y lj fj))
+      (λ y fi fj. absurd (is-new m g i y h.is_open lt (old-field i y lt fi) (some-is y f (field_at new c n) fj h.last.field))))
+      (below_more (λ (j : ℕ). (y : ℕ) → field_at new c n ≡ Some y → field_at new c j ≡ Some y → n ≡ j) n
+      (λ j lj y fi fj. absurd (is-new m g j y h.is_open lj (old-field j y lj fj) (some-is y f (field_at new c n) fi h.last.field)))
+      (λ y fi fj. refl))
+
   parent : parent_in new c ≡ Some (Some m)
   unfolding rest_of
   parent = ap (λ (r : Rest). r.parent) (rest c) ∙ self c (Some (Some m)) (parent_in old c)
@@ -200,6 +226,7 @@ module _ (s : Shape) (old new : Trail) (m c n f first : ℕ) (p : Option ℕ) (k
       distinct = λ i j ij jn a b ia jb. differs j jn i ij a b ia jb;
       proper = λ k a lt e. proper-all k lt a e;
       tagged = λ k x a lt is kind e. tagged-all k lt x a is kind e;
+      placed = record { own = λ i j x li lj fi fj. own-place i li j lj x fi fj; others = λ x k i j y e li lj fi fj. other-place i li x k j y e lj fi fj };
       array = h.array;
     };
     is_open = child-kept-all.written.gate m g h.is_open;
@@ -213,7 +240,7 @@ module _ (s : Shape) (old new : Trail) (m c n f first : ℕ) (p : Option ℕ) (k
     described = ap is_some filled-detail;
     live = lives m ∙ h.live;
     young = lives c ∙ ap (λ (b : MapBits). b.deprecated) h.fresh.bits;
-    dead = subst (λ (ls : List ℕ). All (IsDeadFor new (Some key)) ls) (sym (links m)) (dead-all old new child-kept-all lives m g key (links_in old m) sound.links h.dead);
+    dead = subst (λ (ls : List ℕ). All (IsDeadFor new (Some key)) ls) (sym (links m)) (dead-all old new child-kept-all (same-lives old new lives) m g key (links_in old m) sound.links h.dead);
   }
 
 -- How a child is begun, over views
@@ -263,9 +290,9 @@ pub filled-child : (v v4 v5 : View) (m c n f : ℕ) (p : Option ℕ) (key : Key)
     → Adds (FillsArray c v4.used.entries) v4.trail v5.trail → HasEntriesOf v5.trail c m (count_of v4.trail m) → IsEntry v5.trail c (count_of v4.trail m) key f
     → HasOwnArray v5.trail c (count_of v4.trail m + 1) v4.used.entries → AreFree v5.trail (v4.used.entries + (count_of v4.trail m + 1))
     → IsTree v.trail → IsNewMap v.trail c → gate_in v.trail m ≡ Some (gate_with n false) → gate_in v4.trail m ≡ Some (gate_with n false) → prototype_in v.trail m ≡ Some p → m < c → (bits_in v.trail m).deprecated ≡ false
-    → All (IsDeadFor v.trail (Some key)) (links_in v.trail m) → IsProperKey key → (key.kind ≡ AccessorProp → d ≡ tagged_field) → d ≡ tagged_field → LacksName v.trail m n key.name
+    → All (IsDeadFor v.trail (Some key)) (links_in v.trail m) → IsProperKey key → (key.kind ≡ AccessorProp → d ≡ tagged_field) → IsNarrow d → owner_in v.trail f ≡ None → LacksName v.trail m n key.name
     → IsFilledChild v.shape v.trail v5.trail m c n f v4.used.entries p key d
-filled-child v v4 v5 m c n f p key d e counts h h5 shape writes entries last own spare tree fresh gate gate4 proto younger live dead proper accessor plain lacks =
+filled-child v v4 v5 m c n f p key d e counts h h5 shape writes entries last own spare tree fresh gate gate4 proto younger live dead proper accessor narrow unwritten lacks =
     let count : count_of v4.trail m ≡ n = ap entries_in gate4 in
     record {
       lawful = h.lawful;
@@ -282,7 +309,8 @@ filled-child v v4 v5 m c n f p key d e counts h h5 shape writes entries last own
       last = subst (λ (x : ℕ). IsEntry v5.trail c x key f) count last;
       proper = proper;
       accessor = accessor;
-      plain = plain;
+      narrow = narrow;
+      unwritten = unwritten;
       lacks = lacks;
       arrays = subst (λ (x : ℕ). AreArraysThere x v.trail) (sym counts) h.arrays;
       array = own-has v5.trail c (n + 1) v4.used.entries (omega arith) (subst (λ (x : ℕ). HasOwnArray v5.trail c (x + 1) v4.used.entries) count own) (subst (λ (x : ℕ). AreFree v5.trail (v4.used.entries + (x + 1))) count spare);
@@ -310,3 +338,21 @@ filled-writes s used old new m c n f first p key d h a b e = adds-on (begun-writ
 pub filled-bits : (s : Shape) (old new : Trail) (m c n f first : ℕ) (p : Option ℕ) (key : Key) (d : Detail) → IsFilledChild s old new m c n f first p key d → (x : ℕ) → bits_in new x ≡ bits_in old x
 unfolding rest_of
 filled-bits s old new m c n f first p key d h x = ap (λ (r : Rest). r.bits) (rest-same c first x (begun old m c f p d) new h.filled)
+
+-- and its field gets the detail
+
+fills-reshape : (used : Shape) (G : ℕ → Detail → Type 0) (c first : ℕ) → used.maps ≤ c → used.entries ≤ first → (t : Trail) (w : Write) → FillsArray c first t w → Reshapes used NoMap G t w
+fills-reshape used G c first above there t (EntryKey e k) h = le_trans there h
+fills-reshape used G c first above there t (Reference e f) h = le_trans there h
+fills-reshape used G c first above there t (Base x b) h = subst (λ (y : ℕ). used.maps ≤ y) (sym h) above
+fills-reshape used G c first above there t (Array x a) h = subst (λ (y : ℕ). used.maps ≤ y) (sym h) above
+fills-reshape used G c first above there t _ h = absurd h
+
+pub filled-gets : (s : Shape) (used : Shape) (old new : Trail) (m c n f first : ℕ) (p : Option ℕ) (key : Key) (d : Detail) (G : ℕ → Detail → Type 0) → IsFilledChild s old new m c n f first p key d → used.maps ≤ c → used.fields ≤ f → used.entries ≤ first → G f d → Adds (Reshapes used NoMap G) old new
+filled-gets s used old new m c n f first p key d G h above there b gets =
+    adds-on (adds-on (adds-on (adds-on
+    (adds-one old (Owner f c) there)
+    (adds-one (Owner f c ∷ old) (FieldDetail f d) gets))
+    (adds-one (FieldDetail f d ∷ Owner f c ∷ old) (Parent c (Some m)) above))
+    (adds-one (Parent c (Some m) ∷ FieldDetail f d ∷ Owner f c ∷ old) (Prototype c p) above))
+    (adds-wider (fills-reshape used G c first above b) h.filled)

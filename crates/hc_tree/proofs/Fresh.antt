@@ -14,9 +14,9 @@ use Rattle.hc_links.specs.Chains.{links_in}
 use Rattle.hc_links.specs.Laws.{AreChained, LinksAreChained}
 use Rattle.hc_tree.specs.Kept.{MapsAreKept}
 use Rattle.hc_tree.specs.Tree.{gate_with, IsBare, IsTree, IsRoot}
-use Rattle.hc_tree.specs.Growth.{IsReady, MayBePrototype, root_need, with_root}
+use Rattle.hc_tree.specs.Growth.{IsPlaced, IsReady, MayBePrototype, root_need, with_root}
 use Rattle.hc_tree.specs.Needs.{HasSpace}
-use Rattle.hc_tree.proofs.Keeping.{array-kept, tree-kept, goes-by, root-kept}
+use Rattle.hc_tree.proofs.Keeping.{same-lives, array-kept, tree-kept, goes-by, root-kept}
 use Rattle.hc_tree.proofs.Arrays.{no-has}
 use Rattle.hc_tree.proofs.Growing.{alone-sound, open-tree}
 
@@ -62,18 +62,20 @@ root-tree law chains s t p r lawful new tree =
     let l2 : Lawful s t2 = before s t2 (Gate r (gate_with 0 false)) lawful in
     let l0 : Lawful s t = before s t (Parent r None) (before s (Parent r None ∷ t) (Prototype r p) l2) in
     let goes : GoesOn s t t2 = record { more = Prototype r p ∷ Parent r None ∷ []; is = refl; lawful = l2 } in
-    let tree2 = tree-kept t t2 (law s t t2 l0 goes) (λ x. refl) (λ x. refl) (λ x. refl) (λ o. refl) (λ m g e a. array-kept t t2 m g.entries refl refl (λ x. refl) (λ x. refl) a) tree.plain tree in
+    let tree2 = tree-kept t t2 (law s t t2 l0 goes) (same-lives t t2 (λ x. refl)) (λ x. refl) (λ x. refl) (λ o. refl) (λ m g e a. array-kept t t2 m g.entries refl refl (λ x. refl) (λ x. refl) a) tree.narrow tree in
+    let none : IsPlaced t2 r 0 = record { own = λ i j f lt. absurd (omega arith); others = λ x g i j f is lt. absurd (omega arith) } in
     let ready : IsReady t2 r 0 = record {
       unwritten = new.gate;
       unlinked = no-links chains s t r l0 new.head;
       distinct = λ i j ij jn. absurd (omega arith);
       proper = λ k key lt. absurd (omega arith);
       tagged = λ k f key lt. absurd (omega arith);
+      placed = none;
       array = no-has t2 r 0 refl new.array;
     } in
     let parent : parent_in t2 r ≡ Some None = self r (Some None) (parent_in t r) in
     let bare : IsBare t2 r (gate_with 0 false) = record { entries = refl; live = ap (λ b. b.deprecated) new.bits } in
-    open-tree t2 r (gate_with 0 false) (law s t2 (with_root t p r) l2 (goes-by s t2 (Gate r (gate_with 0 false)) lawful)) (alone-sound t2 r 0 false ready parent (λ _. bare)) tree2
+    open-tree t2 r (gate_with 0 false) (law s t2 (with_root t p r) l2 (goes-by s t2 (Gate r (gate_with 0 false)) lawful)) (alone-sound t2 r 0 false ready parent (λ _. bare)) none tree2
 
 -- a prototype that may be one is an object of the board, and was made a prototype
 pub may-there : (v : View) (p : Option ℕ) → IsHeap v → MayBePrototype v.used v.trail p → IfSome p (λ o. o < v.shape.objects)
@@ -107,4 +109,4 @@ known-space v h None r e = let n : ⊥ = cc in absurd n
 pub roots-kept : MapsAreKept → (s : Shape) (t : Trail) (p : Option ℕ) (o r : ℕ) (w : RootWord) → Lawful s t → Lawful s (Root o w ∷ with_root t p r) → (q : Option ℕ) (x : ℕ) → IsRoot t q x → IsRoot (Root o w ∷ with_root t p r) q x
 roots-kept law s t p o r w lawful after q x h =
     let goes : GoesOn s t (Root o w ∷ with_root t p r) = record { more = Root o w ∷ Gate r (gate_with 0 false) ∷ Prototype r p ∷ Parent r None ∷ []; is = refl; lawful = after } in
-    root-kept t (Root o w ∷ with_root t p r) (law s t (Root o w ∷ with_root t p r) lawful goes) (λ y. refl) q x h
+    root-kept t (Root o w ∷ with_root t p r) (law s t (Root o w ∷ with_root t p r) lawful goes) (same-lives t (Root o w ∷ with_root t p r) (λ y. refl)) q x h

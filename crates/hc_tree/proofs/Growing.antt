@@ -1,5 +1,5 @@
 -- The tree stays sound where a map is opened, alone or as a new child.
-use Rattle.std.proofs.Common.{◌≡◌, ℕ, zero, suc, ◌+◌, Bool, true, false, cond, Option, Some, None, List, [], ◌∷◌, refl, sym, ap, ◌∙◌, subst, arith, eqb, eqb-true, eq-eqb, true≢false}
+use Rattle.std.proofs.Common.{◌≡◌, ℕ, zero, suc, ◌+◌, ◌<◌, Bool, true, false, cond, Option, Some, None, List, [], ◌∷◌, refl, sym, ap, ◌∙◌, subst, arith, eqb, eqb-true, eq-eqb, true≢false}
 use Rattle.std.specs.Prelude.{IsSomeAnd, All, Contains}
 use Rattle.std.proofs.lemmas.Bool.Decides.{nat_tests}
 use Rattle.hc_layout.specs.declared.words.GateWord.{GateWord}
@@ -8,9 +8,10 @@ use Rattle.hc_heap.specs.Writes.{Trail, Gate, Root}
 use Rattle.hc_heap.specs.Readings.{gate_in, parent_in, owner_in, link_key_in, link_child_in, root_in}
 use Rattle.hc_links.specs.Chains.{links_in, linked}
 use Rattle.hc_tree.specs.Kept.{MapsStay}
-use Rattle.hc_tree.specs.Tree.{gate_with, IsRoot, IsChildFor, IsSoundLink, IsDeadFor, HaveOneLive, IsLedTo, IsBare, IsSoundMap, IsTree}
-use Rattle.hc_tree.specs.Growth.{IsReady, IsReadyChild}
-use Rattle.hc_tree.proofs.Keeping.{SameLives, array-kept, map-kept, links-kept, live-kept, dead-all, root-kept}
+use Rattle.hc_descs.specs.Entries.{field_at}
+use Rattle.hc_tree.specs.Tree.{gate_with, HaveOnePlace, IsRoot, IsChildFor, IsSoundLink, IsDeadFor, HaveOneLive, IsLedTo, IsBare, IsSoundMap, IsTree}
+use Rattle.hc_tree.specs.Growth.{IsPlaced, IsReady, IsReadyChild}
+use Rattle.hc_tree.proofs.Keeping.{Lives, same-lives, array-kept, map-kept, links-kept, live-kept, dead-all, root-kept}
 
 none-some : {T : Type 0} (v : T) → None ≡ Some v → ⊥
 none-some v e = cc
@@ -25,11 +26,23 @@ gate-case P old c m g h true e is here there =
     subst (P m) same (subst (λ (x : ℕ). P x g) (eqb-true c m e) here)
 gate-case P old c m g h false e is here there = there e is
 
+-- each field has one place, also after a map was opened whose fields stand at theirs
+places-opened : (t : Trail) (c : ℕ) (g : GateWord) → HaveOnePlace t → IsPlaced t c g.entries → (m n : ℕ) (a b : GateWord) (i j f : ℕ) → gate_in (Gate c g ∷ t) m ≡ Some a → gate_in (Gate c g ∷ t) n ≡ Some b
+    → i < a.entries → j < b.entries → field_at t m i ≡ Some f → field_at t n j ≡ Some f → i ≡ j
+places-opened t c g places placed m n a b i j f em en li lj fi fj =
+    gate-case (λ (x : ℕ) (k : GateWord). i < k.entries → field_at t x i ≡ Some f → i ≡ j) (gate_in t m) c m g a (eqb c m) refl em
+    (λ li' fi'. gate-case (λ (x : ℕ) (k : GateWord). j < k.entries → field_at t x j ≡ Some f → i ≡ j) (gate_in t n) c n g b (eqb c n) refl en
+    (λ lj' fj'. placed.own i j f li' lj' fi' fj')
+    (λ _ was lj' fj'. placed.others n b i j f was li' lj' fi' fj') lj fj)
+    (λ _ had li' fi'. gate-case (λ (x : ℕ) (k : GateWord). j < k.entries → field_at t x j ≡ Some f → i ≡ j) (gate_in t n) c n g b (eqb c n) refl en
+    (λ lj' fj'. sym (placed.others m a j i f had lj' li' fj' fi'))
+    (λ _ was lj' fj'. places m n a b i j f had was li' lj' fi' fj') lj fj) li fi
+
 -- a map that is nobody's child is opened
-pub open-tree : (t : Trail) (c : ℕ) (g : GateWord) → MapsStay t (Gate c g ∷ t) → IsSoundMap (Gate c g ∷ t) c g → IsTree t → IsTree (Gate c g ∷ t)
-open-tree t c g kept here h =
+pub open-tree : (t : Trail) (c : ℕ) (g : GateWord) → MapsStay t (Gate c g ∷ t) → IsSoundMap (Gate c g ∷ t) c g → IsPlaced t c g.entries → IsTree t → IsTree (Gate c g ∷ t)
+open-tree t c g kept here placed h =
     let new : Trail = Gate c g ∷ t in
-    let lives : SameLives t new = λ x. refl in
+    let lives : Lives t new = same-lives t new (λ x. refl) in
     record {
       maps = λ m k e. gate-case (IsSoundMap new) (gate_in t m) c m g k (eqb c m) refl e here
           (λ other was.
@@ -39,7 +52,8 @@ open-tree t c g kept here h =
           (live-kept t new kept lives m k (links_in t m) sound.links sound.live)
           (array-kept t new m k.entries refl refl (λ x. refl) (λ x. refl) sound.array));
       roots = λ o r is. root-kept t new kept lives (Some o) r (h.roots o r is);
-      plain = h.plain;
+      narrow = h.narrow;
+      places = places-opened t c g h.places placed;
     }
 
 -- a private map, or one without an entry, is sound when it is opened
@@ -62,7 +76,7 @@ alone-sound t c n private h parent bare = record {
 pub named-root : (t : Trail) (o r : ℕ) (mark : Bool) → MapsStay t (Root o (record { is_proto = mark; map = Some r }) ∷ t) → IsRoot t (Some o) r → IsTree t → IsTree (Root o (record { is_proto = mark; map = Some r }) ∷ t)
 named-root t o r mark kept root h =
     let new : Trail = Root o (record { is_proto = mark; map = Some r }) ∷ t in
-    let lives : SameLives t new = λ x. refl in
+    let lives : Lives t new = same-lives t new (λ x. refl) in
     record {
       maps = λ m k e.
           let sound = h.maps m k e in
@@ -70,7 +84,8 @@ named-root t o r mark kept root h =
           (links-kept t new kept lives m k (links_in t m) e sound.links)
           (live-kept t new kept lives m k (links_in t m) sound.links sound.live)
           (array-kept t new m k.entries refl refl (λ x. refl) (λ x. refl) sound.array);
-      plain = h.plain;
+      narrow = h.narrow;
+      places = h.places;
       roots = λ p q is. root-case t o r mark p q (eqb o p) refl is (root-kept t new kept lives (Some o) r root) (λ was. root-kept t new kept lives (Some p) q (h.roots p q was));
     }
   where
@@ -107,7 +122,7 @@ module _ (t : Trail) (m c n l f : ℕ) (key : Key) where
   pub head-links : links_in new m ≡ l ∷ links_in t m
   head-links = cond-true (eqb m m) (l ∷ links_in t m) (links_in t m) (same-self m)
 
-  other-links : (x : ℕ) → eqb m x ≡ false → links_in new x ≡ links_in t x
+  pub other-links : (x : ℕ) → eqb m x ≡ false → links_in new x ≡ links_in t x
   other-links x e = cond-false (eqb m x) (l ∷ links_in t x) (links_in t x) e
 
   more-links : (x k : ℕ) → Contains (links_in t x) k → Contains (links_in new x) k
@@ -168,7 +183,7 @@ module _ (t : Trail) (m c n l f : ℕ) (key : Key) where
   -- a map that is ready is opened, and linked to its parent
   pub link-tree : MapsStay t new → IsReadyChild t m c n f key → IsTree t → IsTree new
   link-tree kept h tree =
-      let lives : SameLives t new = λ x. refl in
+      let lives : Lives t new = same-lives t new (λ x. refl) in
       let g : GateWord = gate_with n false in
       let apart : eqb m c ≡ false = grind (arith, nat_tests, h.younger) in
       let opened = kept.written.gate m g h.is_open in
@@ -184,7 +199,8 @@ module _ (t : Trail) (m c n l f : ℕ) (key : Key) where
       ))
       (array-kept t new m n refl refl (λ x. refl) (λ x. refl) sound.array) in
       record {
-        plain = tree.plain;
+        narrow = tree.narrow;
+        places = places-opened t c (gate_with (n + 1) false) tree.places h.ready.placed;
         maps = λ x k e. gate-case (IsSoundMap new) (gate_in t x) c x (gate_with (n + 1) false) k (eqb c x) refl e (child-sound h opened apart)
             (λ _ was. other-case x k was (tree.maps x k was) parent kept);
         roots = λ o r is. root-kept t new kept lives (Some o) r (tree.roots o r is);
@@ -195,7 +211,7 @@ module _ (t : Trail) (m c n l f : ℕ) (key : Key) where
 
       other-map : (x : ℕ) (k : GateWord) → eqb m x ≡ false → gate_in t x ≡ Some k → IsSoundMap t x k → MapsStay t new → IsSoundMap new x k
       other-map x k other was sound kept =
-          let lives : SameLives t new = λ y. refl in
+          let lives : Lives t new = same-lives t new (λ y. refl) in
           map-kept t new kept lives more-links x k was sound
           (λ private. other-links x other ∙ sound.unlinked private)
           (subst (λ (ls : List ℕ). All (IsSoundLink new x k) ls) (sym (other-links x other)) (links-kept t new kept lives x k (links_in t x) was sound.links))

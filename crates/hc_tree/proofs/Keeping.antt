@@ -1,5 +1,5 @@
 -- What is kept of the maps in a lawful trail that goes on.
-use Rattle.std.proofs.Common.{◌≡◌, ℕ, ◌+◌, ◌<◌, ◌≤◌, Bool, true, false, Option, Some, None, List, [], ◌∷◌, get_or, suc, refl, sym, ap, ◌∙◌, subst, arith, cond, eqb, eqb-true, IfSome, IsSome}
+use Rattle.std.proofs.Common.{◌≡◌, ℕ, ◌+◌, ◌<◌, Bool, true, false, Option, Some, None, List, [], ◌∷◌, get_or, suc, refl, sym, ap, ◌∙◌, subst, arith, cond, eqb, eqb-true, IfSome, IsSome}
 use Rattle.std.specs.Prelude.{IsTrue, IsSomeAnd, ◌&&◌, All, Contains}
 use Rattle.hc_layout.specs.declared.shape.Shape.{Shape}
 use Rattle.hc_layout.specs.declared.words.ArrayWord.{ArrayWord}
@@ -23,7 +23,7 @@ use Rattle.hc_descs.specs.Entries.{field_at}
 use Rattle.hc_descs.specs.Copies.{HasArray}
 use Rattle.hc_links.specs.Chains.{links_in}
 use Rattle.hc_tree.specs.Kept.{MapsStay, MapsAreKept}
-use Rattle.hc_tree.specs.Tree.{gate_with, tagged_field, AreTagged, IsRoot, IsChildFor, IsSoundLink, IsDeadFor, HaveOneLive, IsSoundMap, IsTree}
+use Rattle.hc_tree.specs.Tree.{gate_with, tagged_field, AreNarrow, IsRoot, IsChildFor, IsSoundLink, IsDeadFor, HaveOneLive, IsSoundMap, IsTree}
 
 -- the laws of the heap that are used here
 pub record HeapLaws : Type 0 where
@@ -94,7 +94,20 @@ some-of None h = let n : ⊥ = cc in absurd n
 was : {T : Type 0} (a b : Option T) (v : T) → IsSome a → ((x : T) → a ≡ Some x → b ≡ Some x) → b ≡ Some v → a ≡ Some v
 was a b v some stays now = let x = some-of a some in let y = stays x.0 x.1 in x.1 ∙ (sym y ∙ now)
 
-module _ (old new : Trail) (kept : MapsStay old new) (lives : SameLives old new) where
+-- deprecated maps stay so; others die only with all their children, and no root does
+pub record Lives (old new : Trail) : Type 0 where
+  pub rises : (x : ℕ) → IsTrue (bits_in old x).deprecated → IsTrue (bits_in new x).deprecated
+  pub falls : (m c : ℕ) (g : GateWord) (key : Key) → gate_in old m ≡ Some g → IsChildFor old m g c key → IsTrue (bits_in new m).deprecated → IsTrue (bits_in new c).deprecated
+  pub bare : (m : ℕ) (g : GateWord) → gate_in old m ≡ Some g → g.is_private ≡ false → parent_in old m ≡ Some None → (bits_in old m).deprecated ≡ false → (bits_in new m).deprecated ≡ false
+
+pub same-lives : (old new : Trail) → SameLives old new → Lives old new
+same-lives old new same = record {
+  rises = λ x d. same x ∙ d;
+  falls = λ m c g key e h d. same c ∙ h.deprecated (sym (same m) ∙ d);
+  bare = λ m g e shared top live. same m ∙ live;
+}
+
+module _ (old new : Trail) (kept : MapsStay old new) (lives : Lives old new) where
   same-prototype : (m : ℕ) (g : GateWord) → gate_in old m ≡ Some g → prototype_in new m ≡ prototype_in old m
   same-prototype m g e = let p = some-of (prototype_in old m) (kept.opened m g e).prototype in kept.written.prototype m p.0 p.1 ∙ sym p.1
 
@@ -118,7 +131,7 @@ module _ (old new : Trail) (kept : MapsStay old new) (lives : SameLives old new)
         };
         last = last.key ∙ h.last;
         field = owner-kept (field_at old c g.entries) (field_at new c g.entries) c last.field h.field;
-        deprecated = λ d. lives c ∙ h.deprecated (sym (lives m) ∙ d);
+        deprecated = λ d. lives.falls m c g key e h d;
       }
 
   link-kept : (m : ℕ) (g : GateWord) (l : ℕ) → gate_in old m ≡ Some g → IsSoundLink old m g l → IsSoundLink new m g l
@@ -141,7 +154,7 @@ module _ (old new : Trail) (kept : MapsStay old new) (lives : SameLives old new)
   dead-kept m g key l h dead same =
       let is = kept.written.link_key l h.key h.is_key in
       let before = dead-case l h.child (link_child_in old l) h.is_child (dead (h.is_key ∙ (sym is ∙ same))) in
-      subst (λ (o : Option ℕ). IfSome o (λ c. IsTrue (bits_in new c).deprecated)) (sym (kept.written.link_child l h.child h.is_child)) (lives h.child ∙ before)
+      subst (λ (o : Option ℕ). IfSome o (λ c. IsTrue (bits_in new c).deprecated)) (sym (kept.written.link_child l h.child h.is_child)) (lives.rises h.child before)
 
   pub dead-all : (m : ℕ) (g : GateWord) (key : Key) (ls : List ℕ) → All (IsSoundLink old m g) ls → All (IsDeadFor old (Some key)) ls → All (IsDeadFor new (Some key)) ls
   dead-all m g key ls h dead = λ k d lt. dead-kept m g key (get_or ls k d) (h k d lt) (dead k d lt)
@@ -180,8 +193,9 @@ module _ (old new : Trail) (kept : MapsStay old new) (lives : SameLives old new)
               is_open = kept.written.gate p led.gate led.is_open;
             };
         root = λ shared is.
-            let bare = h.root shared (was (parent_in old m) (parent_in new m) None whole.parent (λ v x. kept.written.parent m v x) is) in
-            record { entries = bare.entries; live = lives m ∙ bare.live };
+            let top = was (parent_in old m) (parent_in new m) None whole.parent (λ v x. kept.written.parent m v x) is in
+            let bare = h.root shared top in
+            record { entries = bare.entries; live = lives.bare m g e shared top bare.live };
       }
 
   pub root-kept : (p : Option ℕ) (r : ℕ) → IsRoot old p r → IsRoot new p r
@@ -193,8 +207,8 @@ module _ (old new : Trail) (kept : MapsStay old new) (lives : SameLives old new)
 
   -- the tree stays sound while no map is opened and no link is put in
   pub tree-kept : ((x : ℕ) → links_in new x ≡ links_in old x) → ((x : ℕ) → gate_in new x ≡ gate_in old x) → ((o : ℕ) → (root_in new o).map ≡ (root_in old o).map)
-      → ((m : ℕ) (g : GateWord) → gate_in old m ≡ Some g → HasArray old m g.entries → HasArray new m g.entries) → AreTagged new → IsTree old → IsTree new
-  tree-kept links gates roots arrays plain h = record {
+      → ((m : ℕ) (g : GateWord) → gate_in old m ≡ Some g → HasArray old m g.entries → HasArray new m g.entries) → AreNarrow new → IsTree old → IsTree new
+  tree-kept links gates roots arrays narrow h = record {
     maps = λ m g e.
         let e' = sym (gates m) ∙ e in
         let sound = h.maps m g e' in
@@ -204,7 +218,11 @@ module _ (old new : Trail) (kept : MapsStay old new) (lives : SameLives old new)
         (subst (λ (ls : List ℕ). HaveOneLive new ls) (sym (links m)) (live-kept m g (links_in old m) sound.links sound.live))
         (arrays m g e' sound.array);
     roots = λ o r is. root-kept (Some o) r (h.roots o r (sym (roots o) ∙ is));
-    plain = plain;
+    narrow = narrow;
+    places = λ m n g k i j f em en li lj fi fj.
+        let em' = sym (gates m) ∙ em in
+        let en' = sym (gates n) ∙ en in
+        h.places m n g k i j f em' en' li lj (sym (kept.entry m i g em' li).field ∙ fi) (sym (kept.entry n j k en' lj).field ∙ fj);
   }
 
 -- a map has its array where the words of the array and of all entries are what they were
@@ -227,8 +245,8 @@ lives-case b n x old false e same = refl
 -- the tree stays sound where a map becomes unstable
 pub bits-tree : (t : Trail) (m : ℕ) (b : MapBits) → MapsStay t (Bits m b ∷ t) → b.deprecated ≡ (bits_in t m).deprecated → IsTree t → IsTree (Bits m b ∷ t)
 bits-tree t m b kept same h =
-    tree-kept t (Bits m b ∷ t) kept (λ x. lives-case b m x (bits_in t x) (eqb m x) refl (λ e. subst (λ (y : ℕ). b.deprecated ≡ (bits_in t y).deprecated) (eqb-true m x e) same)) (λ x. refl) (λ x. refl) (λ o. refl)
-    (λ n g e a. array-kept t (Bits m b ∷ t) n g.entries refl refl (λ x. refl) (λ x. refl) a) h.plain h
+    tree-kept t (Bits m b ∷ t) kept (same-lives t (Bits m b ∷ t) (λ x. lives-case b m x (bits_in t x) (eqb m x) refl (λ e. subst (λ (y : ℕ). b.deprecated ≡ (bits_in t y).deprecated) (eqb-true m x e) same))) (λ x. refl) (λ x. refl) (λ o. refl)
+    (λ n g e a. array-kept t (Bits m b ∷ t) n g.entries refl refl (λ x. refl) (λ x. refl) a) h.narrow h
 
 pub bits-view : MapsAreKept → (old new : View) (m : ℕ) (b : MapBits) → new ≡ with_write old (Bits m b) → IsHeap old → IsHeap new → b.deprecated ≡ (bits_in old.trail m).deprecated → IsTree old.trail → IsTree new.trail
 bits-view law old new m b e before after same h =

@@ -5,9 +5,15 @@ pub mod Fresh
 pub mod Begun
 pub mod Copied
 pub mod Opened
+pub mod Joins
 pub mod Made
 pub mod Filled
 pub mod Whole
+pub mod Placed
 pub mod Opening
+pub mod Ended
+pub mod Joined
 pub mod Walked
 pub mod Rooted
+pub mod Owners
+pub mod Deaths

@@ -1,5 +1,5 @@
 -- A child that is opened and linked to its parent, and the live child of a key.
-use Rattle.std.proofs.Common.{◌≡◌, ℕ, ◌+◌, ◌<◌, ◌≤◌, Bool, true, false, cond, Option, Some, None, List, [], ◌∷◌, get_or, suc, refl, sym, ap, ◌∙◌, subst, arith, below_more, eqb, eqb-true, eq-eqb, true≢false, IfSome, IsSome, is_some}
+use Rattle.std.proofs.Common.{◌≡◌, ℕ, ◌+◌, ◌<◌, ◌≤◌, Bool, true, false, cond, Option, Some, None, List, [], ◌∷◌, get_or, suc, refl, sym, ap, ◌∙◌, subst, arith, below_more, eqb, eqb-true, eq-eqb, true≢false, IfSome, IsSome, is_some, inl}
 use Rattle.std.specs.Prelude.{IsTrue, IsSomeAnd, All}
 use Rattle.hc_layout.specs.declared.shape.Shape.{Shape}
 use Rattle.hc_layout.specs.declared.capacity.TheConstants.{MAX_FAST}
@@ -17,12 +17,14 @@ use Rattle.hc_descs.specs.Entries.{key_at, field_at, count_of, entries_in, Lacks
 use Rattle.hc_links.specs.Chains.{links_in, newest_of, child_of, is_key, same_key, linked}
 use Rattle.hc_links.specs.Laws.{SameKeysAreEqual}
 use Rattle.hc_tree.specs.Kept.{MapsAreKept}
-use Rattle.hc_tree.specs.Tree.{gate_with, tagged_field, IsChildFor, IsSoundLink, IsDeadFor, HaveOneLive, IsTree}
+use Rattle.hc_tree.specs.Tree.{gate_with, IsChildFor, IsSoundLink, IsDeadFor, HaveOneLive, IsTree}
+use Rattle.hc_tree.specs.Details.{NoMap, Reshapes}
+use Rattle.std.proofs.lemmas.Bool.Decides.{nat_tests}
 use Rattle.hc_tree.specs.Growth.{MayGrow, MakesMap, EndsWith, IsReadyChild, live_of, live_child, child_need, marked}
 use Rattle.hc_tree.specs.Needs.{HasSpace}
 use Rattle.hc_tree.proofs.Begun.{grow-gate}
 use Rattle.hc_tree.proofs.Keeping.{lives-case}
-use Rattle.hc_tree.proofs.Growing.{all-put, is-child, link-tree, new-key, new-child, head-links}
+use Rattle.hc_tree.proofs.Growing.{all-put, is-child, link-tree, new-key, new-child, head-links, other-links}
 
 -- The parent is made unstable
 
@@ -68,6 +70,9 @@ marked-unstable t m = marked-is t m (bits_in t m).unstable refl
 
 pub marked-writes : (used : Shape) (t : Trail) (m : ℕ) → Adds (MakesMap used (Some m)) t (marked t m)
 marked-writes used t m = marked-keeps (λ (u : Trail). Adds (MakesMap used (Some m)) t u) t m (adds-none t) (adds-one t (Bits m (record { unstable = true; deprecated = (bits_in t m).deprecated })) (refl, refl))
+
+pub marked-gets : (used : Shape) (G : ℕ → Detail → Type 0) (t : Trail) (m : ℕ) → Adds (Reshapes used NoMap G) t (marked t m)
+marked-gets used G t m = marked-keeps (λ (u : Trail). Adds (Reshapes used NoMap G) t u) t m (adds-none t) (adds-one t (Bits m (record { unstable = true; deprecated = (bits_in t m).deprecated })) (inl refl))
 
 -- The gate
 
@@ -138,13 +143,29 @@ linked-writes used t m c l g key above there =
     (adds-one (LinkChild l c ∷ LinkKey l key ∷ Gate c g ∷ t) (LinkNext l (head_in t m)) there))
     (adds-one (LinkNext l (head_in t m) ∷ LinkChild l c ∷ LinkKey l key ∷ Gate c g ∷ t) (Head m (Some l)) refl)
 
+pub linked-gets : (used : Shape) (G : ℕ → Detail → Type 0) (t : Trail) (m c l : ℕ) (g : GateWord) (key : Key) → used.maps ≤ c → used.links ≤ l → Adds (Reshapes used NoMap G) t (linked (Gate c g ∷ t) m l key c)
+linked-gets used G t m c l g key above there =
+    adds-on (adds-on (adds-on (adds-on
+    (adds-one t (Gate c g) above)
+    (adds-one (Gate c g ∷ t) (LinkKey l key) there))
+    (adds-one (LinkKey l key ∷ Gate c g ∷ t) (LinkChild l c) there))
+    (adds-one (LinkChild l c ∷ LinkKey l key ∷ Gate c g ∷ t) (LinkNext l (head_in t m)) there))
+    (adds-one (LinkNext l (head_in t m) ∷ LinkChild l c ∷ LinkKey l key ∷ Gate c g ∷ t) (Head m (Some l)) tt)
+
+-- the new child has no link
+pub child-bare : (t : Trail) (m c n l f : ℕ) (key : Key) → IsReadyChild t m c n f key → links_in (linked (Gate c (gate_with (n + 1) false) ∷ t) m l key c) c ≡ []
+child-bare t m c n l f key h = other-links t m c n l f key c (apart m c h.younger) ∙ h.ready.unlinked
+  where
+    apart : (m c : ℕ) → m < c → eqb m c ≡ false
+    apart m c lt = grind (arith, nat_tests, lt)
+
 -- The newest child of a sound map
 
-key-of : SameKeysAreEqual → (o : Option Key) (k key : Key) → o ≡ Some k → is_key o key ≡ true → k ≡ key
+pub key-of : SameKeysAreEqual → (o : Option Key) (k key : Key) → o ≡ Some k → is_key o key ≡ true → k ≡ key
 key-of law (Some x) k key e test = let same : x ≡ k = cc in sym same ∙ (law x key).0 test
 key-of law None k key e test = absurd (true≢false (sym test))
 
-not-key : SameKeysAreEqual → (o : Option Key) (key : Key) → is_key o key ≡ false → o ≡ Some key → ⊥
+pub not-key : SameKeysAreEqual → (o : Option Key) (key : Key) → is_key o key ≡ false → o ≡ Some key → ⊥
 not-key law o key test e = true≢false (sym (ap (λ (x : Option Key). is_key x key) e ∙ same-itself law key) ∙ test)
 
 newest-case : SameKeysAreEqual → (t : Trail) (m : ℕ) (g : GateWord) (l : ℕ) (key : Key) (c : ℕ) (rest : Option ℕ) (b : Bool) → is_key (link_key_in t l) key ≡ b → IsSoundLink t m g l → cond b (link_child_in t l) rest ≡ Some c → (rest ≡ Some c → IsChildFor t m g c key) → IsChildFor t m g c key
@@ -185,7 +206,7 @@ all-dead law t m g (l ∷ ls) key h one e =
     dead-case law t m g l ls key (is_key (link_key_in t l) key) refl (h 0 l (omega arith)) one.0 e
     (λ (is : live_of t (newest_of t ls key) ≡ None). all-dead law t m g ls key (λ k d lt. h (suc k) d (omega arith)) one.1 is)
 
-live-is : (t : Trail) (o : Option ℕ) (c : ℕ) → live_of t o ≡ Some c → o ≡ Some c
+pub live-is : (t : Trail) (o : Option ℕ) (c : ℕ) → live_of t o ≡ Some c → o ≡ Some c
 live-is t (Some x) c e = live-case (bits_in t x).deprecated e
   where
     live-case : (b : Bool) → cond b None (Some x) ≡ Some c → Some x ≡ Some c
@@ -196,20 +217,6 @@ live-is t None c e = let n : ⊥ = cc in absurd n
 -- a live child is a child for its key
 pub live-child : SameKeysAreEqual → (t : Trail) (m : ℕ) (g : GateWord) (key : Key) (c : ℕ) → IsTree t → gate_in t m ≡ Some g → live_child t m key ≡ Some c → IsChildFor t m g c key
 live-child law t m g key c tree gate e = newest-sound law t m g (links_in t m) key c (tree.maps m g gate).links (live-is t (child_of t m key) c e)
-
--- a child ends with its key, and with a field that admits everything
-pub ends-with : GatesAreOpen → (s : Shape) (t : Trail) (m : ℕ) (g : GateWord) (key : Key) (c : ℕ) → Lawful s t → IsTree t → IsChildFor t m g c key → EndsWith t c g.entries key tagged_field
-ends-with law s t m g key c lawful tree h =
-    let whole : IsOpen t c (gate_with (g.entries + 1) false) = law s t c (gate_with (g.entries + 1) false) lawful h.gate in
-    record { last = h.last; field = with-detail (field_at t c g.entries) (whole.entries.fields g.entries (omega arith)) h.field }
-  where
-    described : (o : Option Detail) → IsSome o → ((d : Detail) → o ≡ Some d → d ≡ tagged_field) → o ≡ Some tagged_field
-    described (Some d) some plain = ap (λ (x : Detail). Some x) (plain d refl)
-    described None some plain = let n : ⊥ = cc in absurd n
-
-    with-detail : (o : Option ℕ) → IsSomeAnd o (λ f. IsField t f) → IsSomeAnd o (λ f. owner_in t f ≡ Some c) → IsSomeAnd o (λ f. (owner_in t f ≡ Some c) × (detail_in t f ≡ Some tagged_field))
-    with-detail (Some f) made owned = (owned, described (detail_in t f) made.detail (tree.plain f))
-    with-detail None made owned = absurd owned
 
 -- the tree with the new child, and the child in it
 pub linked-tree : MapsAreKept → (s : Shape) (t : Trail) (m c n l f : ℕ) (key : Key) → Lawful s t → Lawful s (linked (Gate c (gate_with (n + 1) false) ∷ t) m l key c) → IsReadyChild t m c n f key → IsTree t
@@ -232,11 +239,6 @@ pub found-child : SameKeysAreEqual → (t : Trail) (m : ℕ) (key : Key) (c : �
 found-child law t m key c tree grows live =
     let gate = grow-gate (gate_in t m) grows in
     subst (λ (o : Option GateWord). IsSomeAnd o (λ g. IsChildFor t m g c key)) (sym gate) (live-child law t m (gate_with (count_of t m) false) key c tree gate live)
-
-pub found-ends : SameKeysAreEqual → GatesAreOpen → (s : Shape) (t : Trail) (m : ℕ) (key : Key) (c : ℕ) → Lawful s t → IsTree t → IsSomeAnd (gate_in t m) MayGrow → live_child t m key ≡ Some c → EndsWith t c (count_of t m) key tagged_field
-found-ends law gates s t m key c lawful tree grows live =
-    let g : GateWord = gate_with (count_of t m) false in
-    ends-with gates s t m g key c lawful tree (live-child law t m g key c tree (grow-gate (gate_in t m) grows) live)
 
 pub found-dead : SameKeysAreEqual → (t : Trail) (m : ℕ) (key : Key) → IsTree t → IsSomeAnd (gate_in t m) MayGrow → live_child t m key ≡ None → All (IsDeadFor t (Some key)) (links_in t m)
 found-dead law t m key tree grows live =

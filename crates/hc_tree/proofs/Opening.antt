@@ -1,6 +1,5 @@
 -- Maps that are opened by a call, and are no roots.
 use Rattle.std.proofs.Common.{◌≡◌, ◌≢◌, ℕ, ◌+◌, ◌<◌, ◌≤◌, Bool, true, false, cond, eqb, eqb-true, eq-eqb, List, [], ◌∷◌, ◌++◌, Option, Some, None, IsSome, refl, sym, ap, ◌∙◌, subst, arith, true≢false}
-use Rattle.std.specs.Prelude.{IsSomeAnd}
 use Rattle.hc_layout.specs.declared.shape.Shape.{Shape}
 use Rattle.hc_layout.specs.declared.words.GateWord.{GateWord}
 use Rattle.hc_heap.specs.Writes.{Write, Trail, Gate}

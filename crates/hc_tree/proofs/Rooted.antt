@@ -1,27 +1,27 @@
 -- The root of a prototype, or of null, is there: it was found, or made.
-use Rattle.std.proofs.Common.{◌≡◌, ◌≢◌, ℕ, Bool, true, false, cond, eqb, eqb-true, eq-eqb, ◌∷◌, Option, Some, None, IfSome, refl, sym, ap, ◌∙◌, subst, arith}
+use Rattle.std.proofs.Common.{◌≡◌, ◌≢◌, ℕ, ◌+◌, ◌≤◌, Bool, inl, inr, ⊎_elim, true, false, cond, eqb, eqb-true, eq-eqb, ◌∷◌, Option, Some, None, IfSome, refl, sym, ap, ◌∙◌, subst, arith}
 use Rattle.std.specs.Prelude.{Ok}
 use Rattle.hc_layout.specs.declared.shape.Shape.{Shape}
 use Rattle.hc_layout.specs.declared.words.GateWord.{GateWord}
+use Rattle.hc_layout.specs.declared.words.MapBits.{MapBits}
 use Rattle.hc_layout.specs.declared.words.RootWord.{RootWord}
-use Rattle.hc_heap.specs.Writes.{Trail, Write, Gate, Parent, Prototype, ObjectMap, Root, Store, Slot}
-use Rattle.hc_heap.specs.Readings.{gate_in, parent_in, prototype_in, bits_in, root_in}
+use Rattle.hc_value.specs.declared.field.Detail.{Detail}
+use Rattle.hc_heap.specs.Writes.{Trail, Write, Gate, Parent, Prototype, Root}
+use Rattle.hc_heap.specs.Readings.{gate_in, parent_in, prototype_in, bits_in, detail_in, root_in}
 use Rattle.hc_heap.specs.Lawful.{Lawful}
 use Rattle.hc_heap.specs.Kept.{Adds}
-use Rattle.hc_heap.specs.Frames.{adds-none, adds-one, adds-on, goes-on-of}
+use Rattle.hc_heap.specs.Frames.{adds-none, adds-one, adds-on, adds-wider, goes-on-of}
 use Rattle.hc_heap.specs.States.{View, HeapState, IsHeap}
+use Rattle.hc_descs.specs.Entries.{field_at}
+use Rattle.hc_tree.specs.Details.{NoMap, Reshapes, detail_of, detail_at}
+use Rattle.hc_tree.specs.Frames.{reshapes-grow, reshapes-later}
 use Rattle.hc_tree.specs.Tree.{IsTree, IsRoot, gate_with}
-use Rattle.hc_tree.specs.Needs.{HasSpace, IsWithin, walk_need, with_need}
+use Rattle.hc_tree.specs.Needs.{HasSpace, IsNoLess, IsWithin, walk_need, with_need}
 use Rattle.hc_tree.specs.Growth.{IsStill, IsUnmoved, root_of, root_need, with_root, with_named_root, of_null_after}
 use Rattle.hc_tree.specs.Kept.{MapsAreKept, MapsStay}
-use Rattle.hc_tree.specs.Walking.{AreRoots, GrowsTree, HasMapFor, IsWalked, OpensNoRoot, shared_need}
+use Rattle.hc_tree.specs.Walking.{AreRoots, GetsJoin, GetsSame, GrowsTree, HasMapFor, IsLiveEnd, IsWalked, OpensNoRoot, WalkGets, both_details, joined_at, shared_need, with_root_for}
 use Rattle.hc_tree.proofs.Opening.{cond-other, kept-after, proto-stays, same-or, some-is, some-of}
 use Rattle.hc_tree.proofs.Walked.{no-less-need, no-less-on}
-
--- the trail after the root was made, where there was none
-abbrev pub rooted : Option ℕ → Trail → Option ℕ → ℕ → Trail
-rooted (Some m) t proto r = t
-rooted None t proto r = with_named_root t proto r
 
 -- the root of null then
 abbrev pub null_after : Option ℕ → Option ℕ → Option ℕ → ℕ → Option ℕ
@@ -31,7 +31,8 @@ null_after None proto null r = of_null_after proto null r
 -- the root was found or made
 pub record IsRooted (v w : View) (null then_null proto : Option ℕ) (r : ℕ) : Type 0 where
   pub root : IsRoot w.trail proto r
-  pub trail : w.trail ≡ rooted (root_of v.trail proto null) v.trail proto r
+  pub trail : w.trail ≡ with_root_for (root_of v.trail proto null) v.trail proto r
+  pub number : root_of v.trail proto null ≡ None → r ≡ v.used.maps
   pub named : then_null ≡ null_after (root_of v.trail proto null) proto null r
   pub null_root : IfSome then_null (λ x. IsRoot w.trail None x)
   pub used : w.used ≡ with_need (root_need (root_of v.trail proto null)) v.used
@@ -41,15 +42,16 @@ pub record IsRooted (v w : View) (null then_null proto : Option ℕ) (r : ℕ) :
 
 pub is-rooted : {P : Type 0} (a b : HeapState P) (null then_null proto : Option ℕ) (r : ℕ) → IsRoot b.view.trail proto r
     → (IsStill (root_of a.view.trail proto null) (Ok r) → IsUnmoved a b) → (IsStill (root_of a.view.trail proto null) (Ok r) → then_null ≡ null)
-    → (root_of a.view.trail proto null ≡ None → b.view.trail ≡ with_named_root a.view.trail proto r) → (root_of a.view.trail proto null ≡ None → then_null ≡ of_null_after proto null r)
+    → (root_of a.view.trail proto null ≡ None → r ≡ a.view.used.maps) → (root_of a.view.trail proto null ≡ None → b.view.trail ≡ with_named_root a.view.trail proto r) → (root_of a.view.trail proto null ≡ None → then_null ≡ of_null_after proto null r)
     → IfSome then_null (λ x. IsRoot b.view.trail None x) → b.view.used ≡ with_need (root_need (root_of a.view.trail proto null)) a.view.used → b.view.shape ≡ a.view.shape → IsTree b.view.trail → IsHeap b.view
     → IsRooted a.view b.view null then_null proto r
-is-rooted {P} a b null then_null proto r root still null_still made null_made null_root used shape tree heap =
+is-rooted {P} a b null then_null proto r root still null_still number made null_made null_root used shape tree heap =
     let both = by (root_of a.view.trail proto null) refl in
     record {
       root = root;
       trail = both.0;
       named = both.1;
+      number = number;
       null_root = null_root;
       used = used;
       shape = shape;
@@ -57,7 +59,7 @@ is-rooted {P} a b null then_null proto r root still null_still made null_made nu
       heap = heap;
     }
   where
-    by : (x : Option ℕ) → root_of a.view.trail proto null ≡ x → (b.view.trail ≡ rooted x a.view.trail proto r) × (then_null ≡ null_after x proto null r)
+    by : (x : Option ℕ) → root_of a.view.trail proto null ≡ x → (b.view.trail ≡ with_root_for x a.view.trail proto r) × (then_null ≡ null_after x proto null r)
     by (Some m) e =
         let there : IsStill (root_of a.view.trail proto null) (Ok r) = subst (λ (x : Option ℕ). IsStill x (Ok r)) (sym e) tt in
         (ap (λ (s : HeapState P). s.view.trail) (still there), null_still there)
@@ -65,12 +67,12 @@ is-rooted {P} a b null then_null proto r root still null_still made null_made nu
 
 -- The writes
 
-root-writes : (t : Trail) (p : Option ℕ) (r : ℕ) → Adds GrowsTree t (with_root t p r)
-root-writes t p r = adds-on (adds-on (adds-one t (Parent r None) tt) (adds-one (Parent r None ∷ t) (Prototype r p) tt)) (adds-one (Prototype r p ∷ Parent r None ∷ t) (Gate r (gate_with 0 false)) tt)
+root-writes : (used : Shape) (G : ℕ → Detail → Type 0) (t : Trail) (p : Option ℕ) (r : ℕ) → used.maps ≤ r → Adds (Reshapes used NoMap G) t (with_root t p r)
+root-writes used G t p r le = adds-on (adds-on (adds-one t (Parent r None) le) (adds-one (Parent r None ∷ t) (Prototype r p) le)) (adds-one (Prototype r p ∷ Parent r None ∷ t) (Gate r (gate_with 0 false)) le)
 
-named-writes : (t : Trail) (proto null : Option ℕ) (r : ℕ) → root_of t proto null ≡ None → Adds GrowsTree t (with_named_root t proto r)
-named-writes t None null r none = root-writes t None r
-named-writes t (Some q) null r none = adds-on (root-writes t (Some q) r) (adds-one (with_root t (Some q) r) (Root q (record { is_proto = (root_in t q).is_proto; map = Some r }))
+named-writes : (used : Shape) (G : ℕ → Detail → Type 0) (t : Trail) (proto null : Option ℕ) (r : ℕ) → used.maps ≤ r → root_of t proto null ≡ None → Adds (Reshapes used NoMap G) t (with_named_root t proto r)
+named-writes used G t None null r le none = root-writes used G t None r le
+named-writes used G t (Some q) null r le none = adds-on (root-writes used G t (Some q) r le) (adds-one (with_root t (Some q) r) (Root q (record { is_proto = (root_in t q).is_proto; map = Some r }))
     (refl, λ m is. let n : None ≡ Some m = sym none ∙ is in let f : ⊥ = cc in absurd f))
 
 -- What a root that is made leaves as it was
@@ -125,18 +127,56 @@ made-roots t proto null r none root null_root h = record {
 }
 
 module _ (v w : View) (null then_null proto : Option ℕ) (r : ℕ) (it : IsRooted v w null then_null proto r) where
-  trail-by : (was : Option ℕ) → root_of v.trail proto null ≡ was → w.trail ≡ rooted was v.trail proto r
-  trail-by was is = it.trail ∙ ap (λ (x : Option ℕ). rooted x v.trail proto r) is
+  trail-by : (was : Option ℕ) → root_of v.trail proto null ≡ was → w.trail ≡ with_root_for was v.trail proto r
+  trail-by was is = it.trail ∙ ap (λ (x : Option ℕ). with_root_for x v.trail proto r) is
 
   null-by : (was : Option ℕ) → root_of v.trail proto null ≡ was → then_null ≡ null_after was proto null r
   null-by was is = it.named ∙ ap (λ (x : Option ℕ). null_after x proto null r) is
 
-  pub rooted-writes : Adds GrowsTree v.trail w.trail
-  rooted-writes = by (root_of v.trail proto null) refl
+  pub rooted-writes : (G : ℕ → Detail → Type 0) → Adds (Reshapes v.used NoMap G) v.trail w.trail
+  rooted-writes G = by (root_of v.trail proto null) refl
     where
-      by : (was : Option ℕ) → root_of v.trail proto null ≡ was → Adds GrowsTree v.trail w.trail
-      by (Some x) e = subst (λ (t : Trail). Adds GrowsTree v.trail t) (sym (trail-by (Some x) e)) (adds-none v.trail)
-      by None e = subst (λ (t : Trail). Adds GrowsTree v.trail t) (sym (trail-by None e)) (named-writes v.trail proto null r e)
+      by : (was : Option ℕ) → root_of v.trail proto null ≡ was → Adds (Reshapes v.used NoMap G) v.trail w.trail
+      by (Some x) e = subst (λ (t : Trail). Adds (Reshapes v.used NoMap G) v.trail t) (sym (trail-by (Some x) e)) (adds-none v.trail)
+      by None e = subst (λ (t : Trail). Adds (Reshapes v.used NoMap G) v.trail t) (sym (trail-by None e)) (named-writes v.used G v.trail proto null r (omega (arith, it.number e)) e)
+
+  -- what a root that is made leaves of entries, of fields and of bits
+  same-by : {T : Type 0} (reading : Trail → T) → (reading (with_root_for (root_of v.trail proto null) v.trail proto r) ≡ reading v.trail) → reading w.trail ≡ reading v.trail
+  same-by reading same = ap reading it.trail ∙ same
+
+  pub rooted-fields : (m k : ℕ) → field_at w.trail m k ≡ field_at v.trail m k
+  rooted-fields m k = same-by (λ (t : Trail). field_at t m k) (by (root_of v.trail proto null) proto)
+    where
+      by : (x p : Option ℕ) → field_at (with_root_for x v.trail p r) m k ≡ field_at v.trail m k
+      by (Some y) p = refl
+      by None None = refl
+      by None (Some q) = refl
+
+  detail-same : (f : ℕ) → detail_in w.trail f ≡ detail_in v.trail f
+  detail-same f = same-by (λ (t : Trail). detail_in t f) (by (root_of v.trail proto null) proto)
+    where
+      by : (x p : Option ℕ) → detail_in (with_root_for x v.trail p r) f ≡ detail_in v.trail f
+      by (Some y) p = refl
+      by None None = refl
+      by None (Some q) = refl
+
+  pub rooted-bits : (m : ℕ) → bits_in w.trail m ≡ bits_in v.trail m
+  rooted-bits m = same-by (λ (t : Trail). bits_in t m) (by (root_of v.trail proto null) proto)
+    where
+      by : (x p : Option ℕ) → bits_in (with_root_for x v.trail p r) m ≡ bits_in v.trail m
+      by (Some y) p = refl
+      by None None = refl
+      by None (Some q) = refl
+
+  pub rooted-details : (m k : ℕ) → detail_at w.trail m k ≡ detail_at v.trail m k
+  rooted-details m k = ap (detail_of w.trail) (rooted-fields m k) ∙ by (field_at v.trail m k)
+    where
+      by : (o : Option ℕ) → detail_of w.trail o ≡ detail_of v.trail o
+      by (Some f) = detail-same f
+      by None = refl
+
+  pub rooted-joined : (end m k : ℕ) → joined_at w.trail end m k ≡ joined_at v.trail end m k
+  rooted-joined end m k = ap (λ (o : Option Detail). both_details o (detail_at w.trail m k)) (rooted-details end k) ∙ ap (λ (o : Option Detail). both_details (detail_at v.trail end k) o) (rooted-details m k)
 
   pub rooted-roots : AreRoots v.trail null → AreRoots w.trail then_null
   rooted-roots h = by (root_of v.trail proto null) refl
@@ -218,6 +258,10 @@ root-live t p r tree h = ((tree.maps r (gate_with 0 false) h.gate).root refl h.p
 
 -- A root, and a walk from it
 
+fields-of : (found : Option ℕ) (used : Shape) → (with_need (root_need found) used).fields ≡ used.fields + 0
+fields-of (Some r) used = refl
+fields-of None used = refl
+
 slots-of : (found : Option ℕ) (used : Shape) → (with_need (root_need found) used).slots ≡ used.slots
 slots-of (Some r) used = omega arith
 slots-of None used = omega arith
@@ -227,20 +271,43 @@ module _ (maps : MapsAreKept) (v w : View) (null then_null proto : Option ℕ) (
   lawful-then = subst (λ (s : Shape). Lawful s w.trail) it.shape it.heap.lawful
 
   after : MapsStay v.trail w.trail
-  after = maps v.shape v.trail w.trail heap.lawful (goes-on-of v.shape (rooted-writes v w null then_null proto r it) lawful-then)
+  after = maps v.shape v.trail w.trail heap.lawful (goes-on-of v.shape (rooted-writes v w null then_null proto r it (λ f d. Unit {0})) lawful-then)
 
   -- the map that it is about stays open
   pub open-rooted : (m n : ℕ) → gate_in v.trail m ≡ Some (gate_with n false) → gate_in w.trail m ≡ Some (gate_with n false)
   open-rooted m n is = after.written.gate m (gate_with n false) is
 
-  pub map-found : (x : View) (m c n : ℕ) → AreRoots v.trail null → IsWalked (walk_need n) w x r m c n → HasMapFor v x null then_null m c n proto
+  pub map-found : (x : View) (m c n : ℕ) → AreRoots v.trail null → IsWalked w x r m c n → HasMapFor v x null then_null m c n proto
   map-found x m c n roots walked =
       let lawful_x : Lawful w.shape x.trail = subst (λ (s : Shape). Lawful s x.trail) walked.shape walked.heap.lawful in
       let on : MapsStay w.trail x.trail = maps w.shape w.trail x.trail it.heap.lawful (goes-on-of w.shape walked.writes lawful_x) in
+      let grows : Adds GrowsTree w.trail x.trail = adds-wider (reshapes-grow w.used (WalkGets w.trail walked.end m walked.count n w.used.fields)) walked.writes in
       let from : IsWithin (walk_need n) (with_need (root_need (root_of v.trail proto null)) v.used) x.used = subst (λ (u : Shape). IsWithin (walk_need n) u x.used) it.used walked.needs in
+      let fields : w.used.fields ≡ v.used.fields + 0 = ap (λ (u : Shape). u.fields) it.used ∙ fields-of (root_of v.trail proto null) v.used in
+      let less : IsNoLess v.used w.used = subst (IsNoLess v.used) (sym it.used) (no-less-need (root_need (root_of v.trail proto null)) v.used) in
       record {
-        writes = adds-on (rooted-writes v w null then_null proto r it) walked.writes;
-        roots = roots-stay w.trail x.trail then_null on walked.writes walked.opens (rooted-roots v w null then_null proto r it roots);
+        root = r;
+        end = walked.end;
+        count = walked.count;
+        ended = subst (λ (t : Trail). IsLiveEnd t r m n walked.end walked.count) it.trail walked.ended;
+        writes = adds-on (rooted-writes v w null then_null proto r it (WalkGets v.trail walked.end m walked.count n v.used.fields))
+            (adds-wider (reshapes-later v.used w.used less NoMap (WalkGets w.trail walked.end m walked.count n w.used.fields) (WalkGets v.trail walked.end m walked.count n v.used.fields)
+            (λ f d is. ⊎_elim
+            (λ (join : GetsJoin w.trail walked.end m walked.count f d). inl (record {
+              place = join.place;
+              within = join.within;
+              field = sym (rooted-fields v w null then_null proto r it walked.end join.place) ∙ join.field;
+              joined = sym (rooted-joined v w null then_null proto r it walked.end m join.place) ∙ join.joined;
+            }))
+            (λ (same : GetsSame w.trail m walked.count n w.used.fields f d). inr (record {
+              place = same.place;
+              from = same.from;
+              within = same.within;
+              field = omega (arith, same.field, fields);
+              same = sym (rooted-details v w null then_null proto r it m same.place) ∙ same.same;
+            })) is)) walked.writes);
+        linked = λ y stable marked. walked.linked y (ap (λ (b : MapBits). b.unstable) (rooted-bits v w null then_null proto r it y) ∙ stable) marked;
+        roots = roots-stay w.trail x.trail then_null on grows walked.opens (rooted-roots v w null then_null proto r it roots);
         needs = record {
           maps = omega (arith, from.maps);
           entries = omega (arith, from.entries);
@@ -255,6 +322,8 @@ module _ (maps : MapsAreKept) (v w : View) (null then_null proto : Option ℕ) (
         shape = walked.shape ∙ it.shape;
         like = record { gate = walked.gate; prototype = walked.prototype ∙ it.root.prototype; keys = walked.keys };
         live = walked.live;
+        joined = λ k lt. walked.joined k lt ∙ rooted-joined v w null then_null proto r it walked.end m k;
+        made = λ k above lt. walked.made k above lt ∙ rooted-details v w null then_null proto r it m k;
         tree = walked.tree;
         heap = walked.heap;
       }

@@ -1,37 +1,34 @@
 -- A walk over the tree, from a root to the map that has the keys of another one.
-use Rattle.std.proofs.Common.{◌≡◌, ◌≢◌, ℕ, zero, suc, ◌+◌, ◌<◌, ◌≤◌, false, ◌∷◌, Option, Some, None, IsSome, refl, sym, ap, ◌∙◌, subst, arith, add-one}
+use Rattle.std.proofs.Common.{◌≡◌, ◌≢◌, ℕ, zero, suc, ◌+◌, ◌<◌, ◌≤◌, Bool, true, false, List, [], ◌∷◌, ◌++◌, Option, Some, None, refl, sym, ap, ◌∙◌, subst, arith, add-one, inl, inr, true≢false}
 use Rattle.std.specs.Prelude.{IsSomeAnd}
 use Rattle.hc_layout.specs.Capacity.{cap_of}
 use Rattle.hc_layout.specs.declared.capacity.TheConstants.{MAX_FAST}
 use Rattle.hc_layout.specs.declared.shape.Shape.{Shape}
 use Rattle.hc_layout.specs.declared.words.GateWord.{GateWord}
+use Rattle.hc_layout.specs.declared.words.MapBits.{MapBits}
 use Rattle.hc_value.specs.declared.key.Key.{Key}
-use Rattle.hc_heap.specs.Writes.{Write, Trail, Bits, ObjectMap, Root, Store, Slot}
-use Rattle.hc_heap.specs.Readings.{gate_in, parent_in, bits_in, base_in}
-use Rattle.hc_heap.specs.Lawful.{Lawful, IsKey, key_from}
-use Rattle.hc_heap.specs.Kept.{Adds, FormsAreKept, GatesAreOpen, UnusedSaysNothing}
-use Rattle.hc_heap.specs.Frames.{adds-none, adds-on, adds-wider, goes-on-of}
+use Rattle.hc_value.specs.declared.field.Detail.{Detail}
+use Rattle.hc_value.specs.declared.prop.Kind.TheVariants.{AccessorProp}
+use Rattle.hc_heap.specs.Writes.{Write, Trail, Bits, FieldDetail}
+use Rattle.hc_heap.specs.Readings.{gate_in, parent_in, bits_in, base_in, owner_in, detail_in}
+use Rattle.hc_heap.specs.Lawful.{Lawful, IsField, IsKey, key_from}
+use Rattle.hc_heap.specs.Kept.{Adds, FormsAreKept, GatesAreOpen, GoesOn, UnusedSaysNothing}
+use Rattle.hc_heap.specs.Frames.{adds-none, adds-on, adds-wider, goes-on-of, goes-still, same-after}
 use Rattle.hc_heap.specs.States.{View, IsHeap}
-use Rattle.hc_descs.specs.Entries.{key_at, LacksName}
-use Rattle.hc_links.specs.Chains.{child_of}
-use Rattle.hc_tree.specs.declared.need.Need.{Need}
-use Rattle.hc_tree.specs.Tree.{IsTree, IsChildFor, IsProperKey, gate_with}
+use Rattle.hc_descs.specs.Entries.{key_at, field_at, LacksName}
+use Rattle.hc_links.specs.Chains.{child_of, links_in, newest_of}
+use Rattle.hc_links.specs.Laws.{LinksAreKept}
+use Rattle.hc_tree.specs.Tree.{IsTree, IsChildFor, IsProperKey, gate_with, tagged_field}
 use Rattle.hc_tree.specs.Kept.{MapsAreKept, MapsStay}
-use Rattle.hc_tree.specs.Needs.{HasSpace, IsNoLess, IsWithin, arrays_upto, walk_need, with_need}
-use Rattle.hc_tree.specs.Growth.{MakesMap, MayGrow, live_child, child_need}
-use Rattle.hc_tree.specs.Walking.{GrowsTree, IsWalked, OpensNoRoot}
-use Rattle.hc_tree.proofs.Made.{some-with}
-use Rattle.hc_tree.proofs.Opening.{some-of, same-or, opens-none, opens-one, opens-both, child-no-root, proto-stays, live-bits}
-
--- The writes
-
-grows-by : (used : Shape) (p : Option ℕ) (t : Trail) (w : Write) → MakesMap used p t w → GrowsTree t w
-grows-by used p t (ObjectMap i h) e = absurd e
-grows-by used p t (Store i v) e = absurd e
-grows-by used p t (Slot s v) e = absurd e
-grows-by used p t (Root i r) e = absurd e
-grows-by used p t (Bits m b) e = e.1
-grows-by used p t _ e = tt
+use Rattle.hc_tree.specs.declared.need.Need.{Need}
+use Rattle.hc_tree.specs.Details.{ChildGets, NoMap, Reshapes, detail_of, detail_at}
+use Rattle.hc_tree.specs.Frames.{reshapes-later}
+use Rattle.hc_tree.specs.Needs.{HasSpace, IsNoLess, arrays_upto, walk_need, with_need}
+use Rattle.hc_tree.specs.Growth.{EndsWith, MakesMap, MayGrow, live_of, live_child, child_need}
+use Rattle.hc_tree.specs.Walking.{AreJoined, AreLinked, GetsJoin, GetsSame, IsBuilt, IsLiveEnd, IsWalked, OpensNoRoot, WalkGets}
+use Rattle.hc_tree.proofs.Joins.{bits-same, gates-same, live-same, lives-same}
+use Rattle.hc_tree.proofs.Made.{and-then, field-used, some-with}
+use Rattle.hc_tree.proofs.Opening.{cond-other, some-is, some-of, same-or, opens-one, opens-both, child-no-root, proto-stays, live-bits}
 
 -- What was handed out
 
@@ -89,89 +86,18 @@ module _ (gates : GatesAreOpen) (forms : FormsAreKept) (v : View) (at m k : ℕ)
       subst (λ (x : Option Key). IsSomeAnd x (λ y. y.name ≢ key.name)) (sym (keys j lt ∙ it.1))
       ((tree.maps m next.gate next.is_open).distinct j k lt next.within it.0 key it.1 next.is_key)
 
-within-child : (l : Option ℕ) (k : ℕ) (old : Shape) → IsWithin (child_need None k) old (with_need (child_need l k) old)
-within-child (Some c) k old = record { maps = omega arith; entries = omega arith; fields = omega arith; links = omega arith; slots = omega arith; cells = refl; rises = no-less-need (child_need (Some c) k) old }
-within-child None k old = record { maps = omega arith; entries = omega arith; fields = omega arith; links = omega arith; slots = omega arith; cells = refl; rises = no-less-need (child_need None k) old }
+-- an accessor's field admits everything
+pub next-accessor : (v : View) (m k n : ℕ) (key : Key) (d : Detail) → IsTree v.trail → gate_in v.trail m ≡ Some (gate_with n false) → k < n → key_at v.trail m k ≡ Some key → detail_at v.trail m k ≡ Some d → key.kind ≡ AccessorProp → d ≡ tagged_field
+next-accessor v m k n key d tree gate lt is at kind = by (field_at v.trail m k) refl at
+  where
+    by : (o : Option ℕ) → field_at v.trail m k ≡ o → detail_of v.trail o ≡ Some d → d ≡ tagged_field
+    by (Some f) here admits = some-same (detail_in v.trail f) admits ((tree.maps m (gate_with n false) gate).tagged k f key lt is kind here)
+      where
+        some-same : (o : Option Detail) → o ≡ Some d → o ≡ Some tagged_field → d ≡ tagged_field
+        some-same o a b = cc
+    by None here admits = let n : ⊥ = cc in absurd n
 
-slots-child : (l : Option ℕ) (k : ℕ) (old : Shape) → (with_need (child_need l k) old).slots ≡ old.slots
-slots-child (Some c) k old = omega arith
-slots-child None k old = omega arith
-
--- the child was found or made
--- the live child for a key was found or made
-pub record IsChilded (v w : View) (m n c : ℕ) (key : Key) : Type 0 where
-  pub writes : Adds (MakesMap v.used (Some m)) v.trail w.trail
-  pub shape : w.shape ≡ v.shape
-  pub used : w.used ≡ with_need (child_need (live_child v.trail m key) n) v.used
-  pub number : live_child v.trail m key ≡ None → c ≡ v.used.maps
-  pub live : live_child w.trail m key ≡ Some c
-  pub child : IsSomeAnd (gate_in w.trail m) (λ g. IsChildFor w.trail m g c key)
-  pub tree : IsTree w.trail
-  pub heap : IsHeap w
-
-module _ (maps : MapsAreKept) (unused : UnusedSaysNothing) (v w : View) (at m k c : ℕ) (key : Key) (heap : IsHeap v) (it : IsChilded v w at k c key) (is_open : gate_in v.trail at ≡ Some (gate_with k false)) (next : IsNext v m k key) where
-  lawful-then : Lawful v.shape w.trail
-  lawful-then = subst (λ (s : Shape). Lawful s w.trail) it.shape it.heap.lawful
-
-  after : MapsStay v.trail w.trail
-  after = maps v.shape v.trail w.trail heap.lawful (goes-on-of v.shape it.writes lawful-then)
-
-  open-then : gate_in w.trail at ≡ Some (gate_with k false)
-  open-then = after.written.gate at (gate_with k false) is_open
-
-  its-child : IsChildFor w.trail at (gate_with k false) c key
-  its-child = subst (λ (g : Option GateWord). IsSomeAnd g (λ y. IsChildFor w.trail at y c key)) open-then it.child
-
-  opens-by : (l : Option ℕ) → live_child v.trail at key ≡ l → OpensNoRoot v.trail w.trail
-  opens-by (Some x) e =
-      let used : w.used.maps ≡ v.used.maps + 0 = ap (λ (s : Shape). s.maps) it.used ∙ ap (λ (l : Option ℕ). (with_need (child_need l k) v.used).maps) e in
-      opens-none unused v w (Some at) it.heap it.writes (omega (arith, used))
-  opens-by None e =
-      let used : w.used.maps ≡ v.used.maps + 1 = ap (λ (s : Shape). s.maps) it.used ∙ ap (λ (l : Option ℕ). (with_need (child_need l k) v.used).maps) e in
-      let parent : parent_in w.trail v.used.maps ≡ Some (Some at) = subst (λ (x : ℕ). parent_in w.trail x ≡ Some (Some at)) (it.number e) its-child.parent in
-      opens-one unused v w (Some at) it.heap it.writes used (λ g gate shared top. child-no-root w.trail at v.used.maps parent top)
-
-  keys-then : ((j : ℕ) → j < k → key_at v.trail at j ≡ key_at v.trail m j) → (j : ℕ) → j < k + 1 → key_at w.trail c j ≡ key_at w.trail m j
-  keys-then keys j lt = same-or j k (key_at w.trail c j ≡ key_at w.trail m j)
-      (λ same. ap (key_at w.trail c) same ∙ its-child.last ∙ sym next.is_key ∙ sym (after.entry m k next.gate next.is_open next.within).key ∙ ap (key_at w.trail m) (sym same))
-      (λ other.
-      let before : j < k = omega (arith, lt, other) in
-      let within : j < next.gate.entries = omega (arith, before, next.within) in
-      its-child.entries.keys j before ∙ (after.entry at j (gate_with k false) is_open before).key ∙ keys j before ∙ sym (after.entry m j next.gate next.is_open within).key)
-
-  pub walked-step : ((j : ℕ) → j < k → key_at v.trail at j ≡ key_at v.trail m j) → IsWalked (child_need None k) v w at m c (k + 1)
-  walked-step keys = record {
-    writes = adds-wider (grows-by v.used (Some at)) it.writes;
-    opens = opens-by (live_child v.trail at key) refl;
-    needs = subst (IsWithin (child_need None k) v.used) (sym it.used) (within-child (live_child v.trail at key) k v.used);
-    objects = ap (λ (s : Shape). s.objects) it.used;
-    slots = ap (λ (s : Shape). s.slots) it.used ∙ slots-child (live_child v.trail at key) k v.used;
-    shape = it.shape;
-    gate = its-child.gate;
-    live = live-bits w.trail (child_of w.trail at key) c it.live;
-    prototype = its-child.prototype ∙ proto-stays v.trail w.trail after at (gate_with k false) is_open;
-    keys = keys-then keys;
-    tree = it.tree;
-    heap = it.heap;
-  }
-
--- Many steps
-
-pub walked-none : (v : View) (root m : ℕ) → IsHeap v → IsTree v.trail → gate_in v.trail root ≡ Some (gate_with 0 false) → (bits_in v.trail root).deprecated ≡ false → IsWalked (walk_need 0) v v root m root 0
-walked-none v root m heap tree gate live = record {
-  writes = adds-none v.trail;
-  opens = λ k g none is shared parent. let n : None ≡ Some g = sym none ∙ is in let f : ⊥ = cc in f;
-  needs = record { maps = omega arith; entries = omega arith; fields = omega arith; links = omega arith; slots = omega arith; cells = refl; rises = no-less-none v.used };
-  objects = refl;
-  slots = refl;
-  shape = refl;
-  gate = gate;
-  live = live;
-  prototype = refl;
-  keys = λ k lt. absurd (omega arith);
-  tree = tree;
-  heap = heap;
-}
+-- Sums of arrays
 
 pub arrays-next : (k : ℕ) → arrays_upto (k + 1) ≡ arrays_upto k + cap_of (k + 1)
 arrays-next k = subst (λ (n : ℕ). arrays_upto n ≡ arrays_upto k + cap_of n) (sym (add-one k)) refl
@@ -182,51 +108,317 @@ arrays-rise k (suc n) le = same-or k (suc n) (arrays_upto k ≤ arrays_upto (suc
     (λ is. subst (λ (x : ℕ). arrays_upto k ≤ arrays_upto x) is (omega arith))
     (λ other. let before : k ≤ n = omega (arith, le, other) in let risen : arrays_upto k ≤ arrays_upto n = arrays-rise k n before in omega (arith, risen))
 
-module _ (maps : MapsAreKept) (a b : View) (root m at k : ℕ) (heap : IsHeap a) (walked : IsWalked (walk_need k) a b root m at k) where
-  lawful-b : Lawful a.shape b.trail
-  lawful-b = subst (λ (s : Shape). Lawful s b.trail) walked.shape walked.heap.lawful
+-- One map more
 
-  pub walked-later : MapsStay a.trail b.trail
-  walked-later = maps a.shape a.trail b.trail heap.lawful (goes-on-of a.shape walked.writes lawful-b)
+-- what was made under a map: a child with a field of this detail
+pub record IsMadeUnder (v w : View) (at k c : ℕ) (key : Key) (d : Detail) : Type 0 where
+  pub number : c ≡ v.used.maps
+  pub live : live_child w.trail at key ≡ Some c
+  pub child : IsSomeAnd (gate_in w.trail at) (λ g. IsChildFor w.trail at g c key)
+  pub last : EndsWith w.trail c k key d
+  pub bare : links_in w.trail c ≡ []
+  pub used : w.used ≡ with_need (child_need None k) v.used
+  pub gets : Adds (Reshapes v.used NoMap (ChildGets v.trail None k d v.used.fields)) v.trail w.trail
+  pub writes : Adds (MakesMap v.used (Some at)) v.trail w.trail
+  pub shape : w.shape ≡ v.shape
+  pub tree : IsTree w.trail
+  pub heap : IsHeap w
+
+detail-by : (used : Shape) (p : Option ℕ) (f : ℕ) → f < used.fields → (t : Trail) (w : Write) → MakesMap used p t w → detail_in (w ∷ t) f ≡ detail_in t f
+detail-by used p f lt t (FieldDetail x d) e = cond-other x f (Some d) (detail_in t f) (λ is. omega (arith, lt, e, is))
+detail-by used p f lt t _ e = refl
+
+bits-by : (used : Shape) (at x : ℕ) → x ≢ at → (t : Trail) (w : Write) → MakesMap used (Some at) t w → bits_in (w ∷ t) x ≡ bits_in t x
+bits-by used at x other t (Bits m b) e = cond-other m x b (bits_in t x) (λ is. other (sym is ∙ sym (some-is at m e.0)))
+bits-by used at x other t _ e = refl
+
+no-live : (t : Trail) (m : ℕ) (key : Key) → links_in t m ≡ [] → live_child t m key ≡ None
+no-live t m key none = ap (λ (ls : List ℕ). live_of t (newest_of t ls key)) none
+
+has-link : (t : Trail) (m c : ℕ) (key : Key) → live_child t m key ≡ Some c → links_in t m ≢ []
+has-link t m c key live none = let n : None ≡ Some c = sym (no-live t m key none) ∙ live in let f : ⊥ = cc in f
+
+of-same : (a b : Trail) (o : Option ℕ) → IsSomeAnd o (λ f. detail_in b f ≡ detail_in a f) → detail_of b o ≡ detail_of a o
+of-same a b (Some f) same = same
+of-same a b None same = refl
+
+-- the fields of an open map were handed out
+pub fields-used : MapsAreKept → UnusedSaysNothing → (v : View) → IsHeap v → (m : ℕ) (g : GateWord) → gate_in v.trail m ≡ Some g → (k : ℕ) → k < g.entries → IsSomeAnd (field_at v.trail m k) (λ f. f < v.used.fields)
+fields-used maps unused v heap m g is k lt =
+    let still = maps v.shape v.trail v.trail heap.lawful (goes-still v.shape heap.lawful) in
+    and-then (λ (f : ℕ). IsField v.trail f) (λ (f : ℕ). f < v.used.fields) (field_at v.trail m k) ((still.opened m g is).entries.fields k lt) (λ f made. field-used v f unused heap made)
+
+-- what the fields of an open map admit stays while only new fields get details
+pub details-stay : MapsAreKept → UnusedSaysNothing → (v w : View) → IsHeap v → MapsStay v.trail w.trail → ((f : ℕ) → f < v.used.fields → detail_in w.trail f ≡ detail_in v.trail f) → (m : ℕ) (g : GateWord) → gate_in v.trail m ≡ Some g → (k : ℕ) → k < g.entries → detail_at w.trail m k ≡ detail_at v.trail m k
+details-stay maps unused v w heap after kept m g is k lt =
+    ap (detail_of w.trail) (after.entry m k g is lt).field
+    ∙ of-same v.trail w.trail (field_at v.trail m k) (and-then (λ (f : ℕ). f < v.used.fields) (λ (f : ℕ). detail_in w.trail f ≡ detail_in v.trail f) (field_at v.trail m k) (fields-used maps unused v heap m g is k lt) kept)
+
+end-detail : (t : Trail) (c k : ℕ) (d : Detail) → IsSomeAnd (field_at t c k) (λ f. (owner_in t f ≡ Some c) × (detail_in t f ≡ Some d)) → detail_at t c k ≡ Some d
+end-detail t c k d h = by (field_at t c k) h
+  where
+    by : (o : Option ℕ) → IsSomeAnd o (λ f. (owner_in t f ≡ Some c) × (detail_in t f ≡ Some d)) → detail_of t o ≡ Some d
+    by (Some f) h = h.1
+    by None h = absurd h
+
+module _ (maps : MapsAreKept) (unused : UnusedSaysNothing) (v w : View) (at m k n c : ℕ) (key : Key) (d : Detail) (heap : IsHeap v) (it : IsMadeUnder v w at k c key d)
+    (is_open : gate_in v.trail at ≡ Some (gate_with k false)) (at_map : gate_in v.trail m ≡ Some (gate_with n false)) (lt : k < n) (is_key : key_at v.trail m k ≡ Some key) (is_detail : detail_at v.trail m k ≡ Some d) where
+  after : MapsStay v.trail w.trail
+  after = maps v.shape v.trail w.trail heap.lawful (goes-on-of v.shape it.writes (subst (λ (s : Shape). Lawful s w.trail) it.shape it.heap.lawful))
+
+  its-child : IsChildFor w.trail at (gate_with k false) c key
+  its-child = subst (λ (g : Option GateWord). IsSomeAnd g (λ y. IsChildFor w.trail at y c key)) (after.written.gate at (gate_with k false) is_open) it.child
+
+  opens-step : OpensNoRoot v.trail w.trail
+  opens-step =
+      let used : w.used.maps ≡ v.used.maps + 1 = ap (λ (s : Shape). s.maps) it.used in
+      let parent : parent_in w.trail v.used.maps ≡ Some (Some at) = subst (λ (x : ℕ). parent_in w.trail x ≡ Some (Some at)) it.number its-child.parent in
+      opens-one unused v w (Some at) it.heap it.writes used (λ g gate shared top. child-no-root w.trail at v.used.maps parent top)
+
+  linked-step : AreLinked v.trail w.trail
+  linked-step x stable marked = same-or x at (links_in w.trail x ≢ [])
+      (λ is. subst (λ (y : ℕ). links_in w.trail y ≢ []) (sym is) (has-link w.trail at c key it.live))
+      (λ other. let same : bits_in w.trail x ≡ bits_in v.trail x = same-after (λ (t : Trail). bits_in t x) (bits-by v.used at x other) it.writes in
+      absurd (true≢false (sym marked ∙ ap (λ (b : MapBits). b.unstable) same ∙ stable)))
+
+  keys-step : ((j : ℕ) → j < k → key_at v.trail at j ≡ key_at v.trail m j) → (j : ℕ) → j < k + 1 → key_at w.trail c j ≡ key_at w.trail m j
+  keys-step keys j below = same-or j k (key_at w.trail c j ≡ key_at w.trail m j)
+      (λ same. ap (key_at w.trail c) same ∙ its-child.last ∙ sym is_key ∙ sym (after.entry m k (gate_with n false) at_map lt).key ∙ ap (key_at w.trail m) (sym same))
+      (λ other.
+      let before : j < k = omega (arith, below, other) in
+      its-child.entries.keys j before ∙ (after.entry at j (gate_with k false) is_open before).key ∙ keys j before ∙ sym (after.entry m j (gate_with n false) at_map (omega (arith, before, lt))).key)
+
+  kept-step : (f : ℕ) → f < v.used.fields → detail_in w.trail f ≡ detail_in v.trail f
+  kept-step f below = same-after (λ (t : Trail). detail_in t f) (detail-by v.used (Some at) f below) it.writes
+
+  pub built-step : ((j : ℕ) → j < k → key_at v.trail at j ≡ key_at v.trail m j) → IsBuilt v w at m c k n (k + 1)
+  built-step keys =
+      let next = arrays-next k in
+      let um : w.used.maps ≡ v.used.maps + 1 = ap (λ (s : Shape). s.maps) it.used in
+      let ue : w.used.entries ≡ v.used.entries + cap_of (k + 1) = ap (λ (s : Shape). s.entries) it.used in
+      let uf : w.used.fields ≡ v.used.fields + 1 = ap (λ (s : Shape). s.fields) it.used in
+      let ul : w.used.links ≡ v.used.links + 1 = ap (λ (s : Shape). s.links) it.used in
+      let us : w.used.slots ≡ v.used.slots + 0 = ap (λ (s : Shape). s.slots) it.used in
+      record {
+        writes = adds-wider (reshapes-later v.used v.used (no-less-none v.used) NoMap (ChildGets v.trail None k d v.used.fields) (GetsSame v.trail m k n v.used.fields)
+            (λ f e is. record { place = k; from = omega arith; within = lt; field = ap (λ (x : ℕ). x + k) is.0; same = is_detail ∙ ap (λ (x : Detail). Some x) (sym is.1) })) it.gets;
+        opens = opens-step;
+        linked = linked-step;
+        maps = omega (arith, um);
+        entries = omega (arith, ue, next);
+        fields = omega (arith, uf);
+        links = omega (arith, ul);
+        objects = ap (λ (s : Shape). s.objects) it.used;
+        slots = omega (arith, us);
+        cells = ap (λ (s : Shape). s.cells) it.used;
+        shape = it.shape;
+        gate = its-child.gate;
+        live = live-bits w.trail (child_of w.trail at key) c it.live;
+        prototype = its-child.prototype ∙ proto-stays v.trail w.trail after at (gate_with k false) is_open;
+        keys = keys-step keys;
+        shared = λ j below. its-child.entries.fields j below ∙ (after.entry at j (gate_with k false) is_open below).field;
+        made = λ j from below. let same : j ≡ k = omega (arith, from, below) in
+            subst (λ (x : ℕ). detail_at w.trail c x ≡ detail_at v.trail m x) (sym same) (end-detail w.trail c k d it.last.field ∙ sym is_detail);
+        kept = kept-step;
+        ends = λ other below is. no-live w.trail c other it.bare;
+        tree = it.tree;
+        heap = it.heap;
+      }
+
+-- Many steps
+
+pub built-none : (v : View) (base m count n : ℕ) → IsHeap v → IsTree v.trail → gate_in v.trail base ≡ Some (gate_with count false) → (bits_in v.trail base).deprecated ≡ false
+    → ((j : ℕ) → j < count → key_at v.trail base j ≡ key_at v.trail m j) → ((key : Key) → count < n → key_at v.trail m count ≡ Some key → live_child v.trail base key ≡ None) → IsBuilt v v base m base count n count
+built-none v base m count n heap tree gate live keys ends = record {
+  writes = adds-none v.trail;
+  opens = λ k g none is shared parent. let n : None ≡ Some g = sym none ∙ is in let f : ⊥ = cc in f;
+  linked = λ x stable marked. absurd (true≢false (sym marked ∙ stable));
+  maps = refl;
+  entries = refl;
+  fields = refl;
+  links = refl;
+  objects = refl;
+  slots = refl;
+  cells = refl;
+  shape = refl;
+  gate = gate;
+  live = live;
+  prototype = refl;
+  keys = keys;
+  shared = λ k lt. refl;
+  made = λ k from lt. absurd (omega (arith, from, lt));
+  kept = λ f lt. refl;
+  ends = ends;
+  tree = tree;
+  heap = heap;
+}
+
+no-more : (more ls : List ℕ) → more ++ ls ≡ [] → ls ≡ []
+no-more [] ls is = is
+no-more (x ∷ more) ls is = let n : ⊥ = cc in absurd n
+
+-- maps that became unstable have links, where links are kept
+pub linked-both : LinksAreKept → (s : Shape) (a b c : Trail) → GoesOn s b c → AreLinked a b → AreLinked b c → AreLinked a c
+linked-both law s a b c goes x y m stable marked = by (bits_in b m).unstable refl
+  where
+    by : (was : Bool) → (bits_in b m).unstable ≡ was → links_in c m ≢ []
+    by true e = λ none. x m stable e (no-more ((law s b c m goes).more) (links_in b m) (sym ((law s b c m goes).is) ∙ none))
+    by false e = y m e marked
+
+module _ (maps : MapsAreKept) (a b : View) (base m at count n k : ℕ) (heap : IsHeap a) (it : IsBuilt a b base m at count n k) (from : count ≤ k) where
+  lawful-b : Lawful a.shape b.trail
+  lawful-b = subst (λ (s : Shape). Lawful s b.trail) it.shape it.heap.lawful
+
+  pub built-later : MapsStay a.trail b.trail
+  built-later = maps a.shape a.trail b.trail heap.lawful (goes-on-of a.shape it.writes lawful-b)
 
   -- there is room for the next step
-  pub walked-space : (n : ℕ) → k < n → HasSpace a (walk_need n) → HasSpace b (child_need None k)
-  walked-space n lt space =
+  pub built-space : k < n → HasSpace a (walk_need n) → HasSpace b (child_need None k)
+  built-space lt space =
       let next = arrays-next k in
       let most : arrays_upto (k + 1) ≤ arrays_upto n = arrays-rise (k + 1) n (omega (arith, lt)) in
-      subst (λ (s : Shape). HasSpace (record { shape = s; trail = b.trail; used = b.used }) (child_need None k)) (sym walked.shape) (record {
-        maps = omega (arith, walked.needs.maps, space.maps, lt);
-        entries = omega (arith, walked.needs.entries, space.entries, next, most);
-        fields = omega (arith, walked.needs.fields, space.fields, lt);
-        links = omega (arith, walked.needs.links, space.links, lt);
-        slots = omega (arith, walked.slots, space.slots);
+      subst (λ (s : Shape). HasSpace (record { shape = s; trail = b.trail; used = b.used }) (child_need None k)) (sym it.shape) (record {
+        maps = omega (arith, it.maps, space.maps, lt);
+        entries = omega (arith, it.entries, space.entries, next, most);
+        fields = omega (arith, it.fields, space.fields, lt);
+        links = omega (arith, it.links, space.links, lt);
+        slots = omega (arith, it.slots, space.slots);
       })
 
+  pub no-less-built : IsNoLess a.used b.used
+  no-less-built =
+      let rise = arrays-rise count k from in record {
+        maps = omega (arith, it.maps, from);
+        entries = omega (arith, it.entries, rise);
+        fields = omega (arith, it.fields, from);
+        links = omega (arith, it.links, from);
+        slots = omega (arith, it.slots);
+      }
+
   -- a step more
-  pub walked-more : GatesAreOpen → (c : View) (child n : ℕ) → gate_in a.trail m ≡ Some (gate_with n false) → k < n → IsWalked (child_need None k) b c at m child (k + 1) → IsWalked (walk_need (k + 1)) a c root m child (k + 1)
-  walked-more gates c child n is_open lt step =
+  pub built-more : GatesAreOpen → LinksAreKept → UnusedSaysNothing → (c : View) (child : ℕ) → gate_in a.trail m ≡ Some (gate_with n false) → k < n → IsBuilt b c at m child k n (k + 1) → IsBuilt a c base m child count n (k + 1)
+  built-more gates links unused c child is_open lt step =
       let next = arrays-next k in
       let lawful_c : Lawful b.shape c.trail = subst (λ (s : Shape). Lawful s c.trail) step.shape step.heap.lawful in
-      let on : MapsStay b.trail c.trail = maps b.shape b.trail c.trail walked.heap.lawful (goes-on-of b.shape step.writes lawful_c) in
+      let goes : GoesOn b.shape b.trail c.trail = goes-on-of b.shape step.writes lawful_c in
+      let on : MapsStay b.trail c.trail = maps b.shape b.trail c.trail it.heap.lawful goes in
+      let stay = details-stay maps unused a b heap built-later it.kept m (gate_with n false) is_open in
+      let fields = it.fields in
       record {
-        writes = adds-on walked.writes step.writes;
-        opens = opens-both a.trail b.trail c.trail on (λ x g is. (gates b.shape b.trail x g walked.heap.lawful is).parent) walked.opens step.opens;
-        needs = record {
-          maps = omega (arith, walked.needs.maps, step.needs.maps);
-          entries = omega (arith, walked.needs.entries, step.needs.entries, next);
-          fields = omega (arith, walked.needs.fields, step.needs.fields);
-          links = omega (arith, walked.needs.links, step.needs.links);
-          slots = omega (arith, walked.needs.slots, step.needs.slots);
-          cells = step.needs.cells ∙ walked.needs.cells;
-          rises = no-less-on a.used b.used c.used walked.needs.rises step.needs.rises;
-        };
-        objects = step.objects ∙ walked.objects;
-        slots = step.slots ∙ walked.slots;
-        shape = step.shape ∙ walked.shape;
+        writes = adds-on it.writes (adds-wider (reshapes-later a.used b.used no-less-built NoMap (GetsSame b.trail m k n b.used.fields) (GetsSame a.trail m count n a.used.fields)
+            (λ f d is. record {
+              place = is.place;
+              from = omega (arith, is.from, from);
+              within = is.within;
+              field = omega (arith, is.field, fields);
+              same = sym (stay is.place is.within) ∙ is.same;
+            })) step.writes);
+        opens = opens-both a.trail b.trail c.trail on (λ x g is. (gates b.shape b.trail x g it.heap.lawful is).parent) it.opens step.opens;
+        linked = linked-both links b.shape a.trail b.trail c.trail goes it.linked step.linked;
+        maps = omega (arith, it.maps, step.maps);
+        entries = omega (arith, it.entries, step.entries);
+        fields = omega (arith, it.fields, step.fields);
+        links = omega (arith, it.links, step.links);
+        objects = step.objects ∙ it.objects;
+        slots = step.slots ∙ it.slots;
+        cells = step.cells ∙ it.cells;
+        shape = step.shape ∙ it.shape;
         gate = step.gate;
         live = step.live;
-        prototype = step.prototype ∙ walked.prototype;
+        prototype = step.prototype ∙ it.prototype;
         keys = step.keys;
+        shared = λ j below. step.shared j (omega (arith, below, from)) ∙ it.shared j below;
+        made = λ j above below. same-or j k (detail_at c.trail child j ≡ detail_at a.trail m j)
+            (λ same. subst (λ (x : ℕ). detail_at c.trail child x ≡ detail_at a.trail m x) (sym same) (step.made k (omega arith) (omega arith) ∙ stay k lt))
+            (λ other.
+            let before : j < k = omega (arith, below, other) in
+            ap (detail_of c.trail) (step.shared j before)
+            ∙ of-same b.trail c.trail (field_at b.trail at j) (and-then (λ (f : ℕ). f < b.used.fields) (λ (f : ℕ). detail_in c.trail f ≡ detail_in b.trail f) (field_at b.trail at j) (fields-used maps unused b it.heap at (gate_with k false) it.gate j before) step.kept)
+            ∙ it.made j above before);
+        kept = λ f below. step.kept f (omega (arith, below, fields, from)) ∙ it.kept f below;
+        ends = step.ends;
         tree = step.tree;
         heap = step.heap;
+      }
+
+-- The whole walk
+
+module _ (maps : MapsAreKept) (unused : UnusedSaysNothing) (v w : View) (root end m count n : ℕ) (heap : IsHeap v) (ended : IsLiveEnd v.trail root m n end count) (it : AreJoined v w end m count n count) (at_map : gate_in v.trail m ≡ Some (gate_with n false)) where
+  lawful-w : Lawful v.shape w.trail
+  lawful-w = subst (λ (s : Shape). Lawful s w.trail) (ap (λ (x : View). x.shape) it.view) it.heap.lawful
+
+  joined-later : MapsStay v.trail w.trail
+  joined-later = maps v.shape v.trail w.trail heap.lawful (goes-on-of v.shape it.only lawful-w)
+
+  pub joined-live : (bits_in w.trail end).deprecated ≡ false
+  joined-live = lives-same v.trail w.trail it.only end ∙ ended.path.live
+
+  pub joined-gate : gate_in w.trail end ≡ Some (gate_with count false)
+  joined-gate = joined-later.written.gate end (gate_with count false) ended.path.gate
+
+  pub joined-map : gate_in w.trail m ≡ Some (gate_with n false)
+  joined-map = joined-later.written.gate m (gate_with n false) at_map
+
+  pub joined-keys : (j : ℕ) → j < count → key_at w.trail end j ≡ key_at w.trail m j
+  joined-keys j lt =
+      let le = ended.within in
+      (joined-later.entry end j (gate_with count false) ended.path.gate lt).key ∙ ended.path.keys j lt ∙ sym (joined-later.entry m j (gate_with n false) at_map (omega (arith, lt, le))).key
+
+  pub joined-ends : (key : Key) → count < n → key_at w.trail m count ≡ Some key → live_child w.trail end key ≡ None
+  joined-ends key lt is = live-same v.trail w.trail it.only end key ∙ ended.ends key lt (sym (joined-later.entry m count (gate_with n false) at_map lt).key ∙ is)
+
+  pub joined-space : HasSpace v (walk_need n) → HasSpace w (walk_need n)
+  joined-space space = subst (λ (x : View). HasSpace x (walk_need n)) (sym it.view) (record { maps = space.maps; entries = space.entries; fields = space.fields; links = space.links; slots = space.slots })
+
+  pub walked : (x : View) (c : ℕ) → IsBuilt w x end m c count n n → IsWalked v x root m c n
+  walked x c built =
+      let used : w.used ≡ v.used = ap (λ (y : View). y.used) it.view in
+      let first = arrays_upto count in
+      let le = ended.within in
+      let bm : x.used.maps + count ≡ v.used.maps + n = subst (λ (u : Shape). x.used.maps + count ≡ u.maps + n) used built.maps in
+      let be : x.used.entries + arrays_upto count ≡ v.used.entries + arrays_upto n = subst (λ (u : Shape). x.used.entries + arrays_upto count ≡ u.entries + arrays_upto n) used built.entries in
+      let bf : x.used.fields + count ≡ v.used.fields + n = subst (λ (u : Shape). x.used.fields + count ≡ u.fields + n) used built.fields in
+      let bl : x.used.links + count ≡ v.used.links + n = subst (λ (u : Shape). x.used.links + count ≡ u.links + n) used built.links in
+      let bs : x.used.slots ≡ v.used.slots = built.slots ∙ ap (λ (u : Shape). u.slots) used in
+      let rise = arrays-rise count n le in
+      let second = subst (λ (u : Shape). Adds (Reshapes u NoMap (GetsSame w.trail m count n u.fields)) w.trail x.trail) used built.writes in
+      record {
+        end = end;
+        count = count;
+        ended = ended;
+        writes = adds-on
+            (adds-wider (reshapes-later v.used v.used (no-less-none v.used) NoMap (GetsJoin v.trail end m count) (WalkGets v.trail end m count n v.used.fields) (λ f d is. inl is)) it.writes)
+            (adds-wider (reshapes-later v.used v.used (no-less-none v.used) NoMap (GetsSame w.trail m count n v.used.fields) (WalkGets v.trail end m count n v.used.fields)
+            (λ f d is. inr (record { place = is.place; from = is.from; within = is.within; field = is.field; same = sym (it.others is.place is.from is.within) ∙ is.same }))) second);
+        opens = λ y g none gate shared parent. built.opens y g (gates-same v.trail w.trail it.only y ∙ none) gate shared parent;
+        linked = λ y stable marked. built.linked y (ap (λ (b : MapBits). b.unstable) (bits-same v.trail w.trail it.only y) ∙ stable) marked;
+        needs = record {
+          maps = omega (arith, bm);
+          entries = omega (arith, be);
+          fields = omega (arith, bf);
+          links = omega (arith, bl);
+          slots = omega (arith, bs);
+          cells = built.cells ∙ ap (λ (u : Shape). u.cells) used;
+          rises = record {
+            maps = omega (arith, bm, le);
+            entries = omega (arith, be, rise);
+            fields = omega (arith, bf, le);
+            links = omega (arith, bl, le);
+            slots = omega (arith, bs);
+          };
+        };
+        objects = built.objects ∙ ap (λ (u : Shape). u.objects) used;
+        slots = bs;
+        shape = built.shape ∙ ap (λ (y : View). y.shape) it.view;
+        gate = built.gate;
+        live = built.live;
+        prototype = built.prototype ∙ proto-stays v.trail w.trail joined-later end (gate_with count false) ended.path.gate ∙ ended.path.prototype;
+        keys = built.keys;
+        joined = λ k lt.
+            ap (detail_of x.trail) (built.shared k lt)
+            ∙ of-same w.trail x.trail (field_at w.trail end k) (and-then (λ (f : ℕ). f < w.used.fields) (λ (f : ℕ). detail_in x.trail f ≡ detail_in w.trail f) (field_at w.trail end k) (fields-used maps unused w it.heap end (gate_with count false) joined-gate k lt) built.kept)
+            ∙ it.joined k lt;
+        made = λ k from lt. built.made k from lt ∙ it.others k from lt;
+        tree = built.tree;
+        heap = built.heap;
       }

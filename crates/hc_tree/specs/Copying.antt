@@ -12,22 +12,14 @@ use Rattle.hc_heap.specs.Lawful.{IsKey, IsField, IsClassThere}
 use Rattle.hc_tree.specs.declared.need.Need.{Need}
 use Rattle.hc_descs.specs.Entries.{key_at, field_at, count_of, LacksName}
 pub use Rattle.hc_fields.specs.Fields.{with_field}
+pub use Rattle.hc_tree.specs.Details.{detail_of, detail_at}
 use Rattle.hc_descs.specs.Copies.{HasEntriesOf, HasKeysOf}
 use Rattle.hc_links.specs.Chains.{links_in}
-use Rattle.hc_tree.specs.Tree.{gate_with, tagged_field, HaveDistinctNames, HaveProperKeys, HaveTaggedAccessors, IsProperKey}
+use Rattle.hc_tree.specs.Tree.{gate_with, tagged_field, IsNarrow, HaveDistinctNames, HaveProperKeys, HaveTaggedAccessors, IsProperKey}
 use Rattle.hc_tree.specs.Needs.{array_of}
 use Rattle.hc_tree.specs.Growth.{EndsWith}
 
 -- New fields
-
--- what a field admits, if it is one and that was written
-abbrev pub detail_of : Trail → Option ℕ → Option Detail
-detail_of t (Some f) = detail_in t f
-detail_of t None = None
-
--- what the field of a map's k-th entry admits
-abbrev pub detail_at : Trail → ℕ → ℕ → Option Detail
-detail_at t m k = detail_of t (field_at t m k)
 
 -- a field was made for a map, and admits what the field of another map's k-th entry admits
 pub record IsLikeField (t : Trail) (c m k f : ℕ) : Type 0 where
@@ -50,7 +42,7 @@ Extra = Key × Detail
 abbrev pub More : Type 0
 More = Option Extra
 
--- an entry with this key and detail may come after those of a map; so far each detail admits everything
+-- an entry with this key and detail may come after those of a map
 pub record MayBeLast (s : Shape) (t : Trail) (m : ℕ) (key : Key) (detail : Detail) : Type 0 where
   pub form : IsKey key
   pub proper : IsProperKey key
@@ -58,7 +50,7 @@ pub record MayBeLast (s : Shape) (t : Trail) (m : ℕ) (key : Key) (detail : Det
   pub accessor : key.kind ≡ AccessorProp → detail ≡ tagged_field
   pub class : IsClassInRange detail.class
   pub there : IsClassThere s t detail.class
-  pub tagged : detail ≡ tagged_field
+  pub narrow : IsNarrow detail
 
 -- how many entries a private copy of a map with n entries has
 abbrev pub copied_count : More → ℕ → ℕ

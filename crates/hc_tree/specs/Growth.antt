@@ -82,6 +82,11 @@ pub record EndsWith (t : Trail) (c n : ℕ) (key : Key) (detail : Detail) : Type
 
 -- Maps that are ready to be opened
 
+-- a map's first n fields stand at their places, among its own and those of the open maps
+pub record IsPlaced (t : Trail) (c n : ℕ) : Type 0 where
+  pub own : (i j f : ℕ) → i < n → j < n → field_at t c i ≡ Some f → field_at t c j ≡ Some f → i ≡ j
+  pub others : (x : ℕ) (g : GateWord) (i j f : ℕ) → gate_in t x ≡ Some g → i < n → j < g.entries → field_at t c i ≡ Some f → field_at t x j ≡ Some f → i ≡ j
+
 -- what the entries of a map keep to, before it is opened
 pub record IsReady (t : Trail) (c n : ℕ) : Type 0 where
   pub unwritten : gate_in t c ≡ None
@@ -89,6 +94,7 @@ pub record IsReady (t : Trail) (c n : ℕ) : Type 0 where
   pub distinct : HaveDistinctNames t c n
   pub proper : HaveProperKeys t c n
   pub tagged : HaveTaggedAccessors t c n
+  pub placed : IsPlaced t c n
   pub array : HasArray t c n
 
 -- a map that is ready to be opened as the child of another

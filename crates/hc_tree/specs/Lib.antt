@@ -1,6 +1,9 @@
 pub mod Tree
+pub mod Details
 pub mod Needs
 pub mod Growth
 pub mod Kept
 pub mod Copying
 pub mod Walking
+pub mod Frames
+pub mod Dying

@@ -4,7 +4,7 @@ use Rattle.hc_layout.specs.declared.words.GateWord.{GateWord}
 use Rattle.hc_value.specs.Attrs.{is_read_only}
 use Rattle.hc_value.specs.declared.key.Key.{Key}
 use Rattle.hc_value.specs.declared.prop.Kind.TheVariants.{AccessorProp}
-use Rattle.hc_value.specs.declared.field.Rep.TheVariants.{Tagged}
+use Rattle.hc_value.specs.declared.field.Rep.TheVariants.{Tagged, Wide}
 use Rattle.hc_value.specs.declared.field.Constness.TheVariants.{Mutable}
 use Rattle.hc_value.specs.declared.field.Class.TheVariants.{Any}
 use Rattle.hc_value.specs.declared.field.Detail.{Detail}
@@ -35,7 +35,7 @@ IsProperKey key = key.kind ≡ AccessorProp → is_read_only key.attrs ≡ false
 abbrev pub HaveProperKeys : Trail → ℕ → ℕ → Type 0
 HaveProperKeys t m n = (k : ℕ) (key : Key) → k < n → key_at t m k ≡ Some key → IsProperKey key
 
--- what a field admits that admits everything
+-- the detail of a field that admits everything
 abbrev pub tagged_field : Detail
 tagged_field = record { rep = Tagged; constness = Mutable; class = Any }
 
@@ -43,9 +43,17 @@ tagged_field = record { rep = Tagged; constness = Mutable; class = Any }
 abbrev pub HaveTaggedAccessors : Trail → ℕ → ℕ → Type 0
 HaveTaggedAccessors t m n = (k f : ℕ) (key : Key) → k < n → key_at t m k ≡ Some key → key.kind ≡ AccessorProp → field_at t m k ≡ Some f → detail_in t f ≡ Some tagged_field
 
--- every field admits everything: so it is until fields have details of their own
-abbrev pub AreTagged : Trail → Type 0
-AreTagged t = (f : ℕ) (d : Detail) → detail_in t f ≡ Some d → d ≡ tagged_field
+-- a detail whose values are words as they are, and not integers alone
+abbrev pub IsNarrow : Detail → Type 0
+IsNarrow d = d.rep ≢ Wide
+
+-- no field is wide so far, so that every join is one in place
+abbrev pub AreNarrow : Trail → Type 0
+AreNarrow t = (f : ℕ) (d : Detail) → detail_in t f ≡ Some d → IsNarrow d
+
+-- a field stands at the same place in each open map that has it
+abbrev pub HaveOnePlace : Trail → Type 0
+HaveOnePlace t = (m n : ℕ) (g h : GateWord) (i j f : ℕ) → gate_in t m ≡ Some g → gate_in t n ≡ Some h → i < g.entries → j < h.entries → field_at t m i ≡ Some f → field_at t n j ≡ Some f → i ≡ j
 
 -- a map is the child of another, whose gate is g, for a key: it has the other's prototype and entries, and
 -- one entry more, whose field is its own
@@ -103,8 +111,9 @@ pub record IsSoundMap (t : Trail) (m : ℕ) (g : GateWord) : Type 0 where
   pub child : (p : ℕ) → parent_in t m ≡ Some (Some p) → IsLedTo t p m
   pub root : g.is_private ≡ false → parent_in t m ≡ Some None → IsBare t m g
 
--- the tree is sound: each open map is, what a root word names is a root, and every field admits everything so far
+-- the tree is sound: each open map is, what a root word names is a root, no field is wide, and each has its place
 pub record IsTree (t : Trail) : Type 0 where
   pub maps : (m : ℕ) (g : GateWord) → gate_in t m ≡ Some g → IsSoundMap t m g
   pub roots : (o r : ℕ) → (root_in t o).map ≡ Some r → IsRoot t (Some o) r
-  pub plain : AreTagged t
+  pub narrow : AreNarrow t
+  pub places : HaveOnePlace t

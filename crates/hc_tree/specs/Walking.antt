@@ -1,14 +1,19 @@
 -- The shared map that has a prototype and the keys of another map: the maps that are made for it, and the one that is come to.
-use Rattle.std.specs.Prelude.{◌≡◌, ℕ, ◌<◌, false, Option, Some, None, IfSome}
+use Rattle.std.specs.Prelude.{◌≡◌, ◌≢◌, ◌⊎◌, ℕ, zero, suc, ◌+◌, ◌<◌, ◌≤◌, false, IsTrue, Option, Some, None, IfSome, []}
+use Rattle.hc_value.specs.Field.{joined_detail}
+use Rattle.hc_value.specs.declared.field.Detail.{Detail}
+use Rattle.hc_value.specs.declared.key.Key.{Key}
+use Rattle.hc_links.specs.Chains.{links_in}
+use Rattle.hc_tree.specs.Details.{NoMap, Reshapes, WritesDetails, detail_at}
 use Rattle.hc_layout.specs.declared.words.GateWord.{GateWord}
 use Rattle.hc_heap.specs.Writes.{Write, Trail, Bits, ObjectMap, Root, Store, Slot}
-use Rattle.hc_heap.specs.Readings.{gate_in, parent_in, prototype_in, bits_in, root_in}
+use Rattle.hc_heap.specs.Readings.{gate_in, parent_in, prototype_in, bits_in, detail_in, root_in}
 use Rattle.hc_heap.specs.Kept.{Adds}
 use Rattle.hc_heap.specs.States.{View, IsHeap}
-use Rattle.hc_descs.specs.Entries.{key_at}
+use Rattle.hc_descs.specs.Entries.{key_at, field_at}
 use Rattle.hc_tree.specs.declared.need.Need.{Need}
-use Rattle.hc_tree.specs.Growth.{root_of, root_need}
-use Rattle.hc_tree.specs.Needs.{IsWithin, both, walk_need}
+use Rattle.hc_tree.specs.Growth.{live_child, root_of, root_need, with_named_root}
+use Rattle.hc_tree.specs.Needs.{IsWithin, arrays_upto, both, walk_need}
 use Rattle.hc_tree.specs.Tree.{IsRoot, IsTree, gate_with}
 
 -- a shared map that is nobody's child is the root that its prototype names; the root of null is one
@@ -30,19 +35,125 @@ GrowsTree t (Root p r) = (r.is_proto ≡ (root_in t p).is_proto) × ((m : ℕ) �
 GrowsTree t (Bits m b) = b.deprecated ≡ (bits_in t m).deprecated
 GrowsTree t _ = Unit {0}
 
--- a walk came from a map to a shared and live one with the same prototype, whose n entries have the keys of another map's
--- first n; maps that were missing were made, within a need
-pub record IsWalked (need : Need) (old new : View) (from m c n : ℕ) : Type 0 where
-  pub writes : Adds GrowsTree old.trail new.trail
+-- Walks along live children
+
+-- the map that a written parent names
+abbrev pub parent_of : Option (Option ℕ) → Option ℕ
+parent_of None = None
+parent_of (Some p) = p
+
+-- the map above a map, if it is somebody's child
+abbrev pub above : Trail → Option ℕ → Option ℕ
+above t None = None
+above t (Some c) = parent_of (parent_in t c)
+
+-- the map so many steps above a map
+abbrev pub ancestor : Trail → ℕ → ℕ → Option ℕ
+ancestor t zero c = Some c
+ancestor t (suc d) c = above t (ancestor t d c)
+
+-- a live map with so many entries stands under a root, and has the first keys of a map
+pub record IsOnPath (t : Trail) (root m at count : ℕ) : Type 0 where
+  pub gate : gate_in t at ≡ Some (gate_with count false)
+  pub live : (bits_in t at).deprecated ≡ false
+  pub prototype : prototype_in t at ≡ prototype_in t root
+  pub keys : (k : ℕ) → k < count → key_at t at k ≡ key_at t m k
+  pub high : ancestor t count at ≡ Some root
+
+-- a walk from a root along live children, by the n keys of a map, comes to this map, and no further
+pub record IsLiveEnd (t : Trail) (root m n end count : ℕ) : Type 0 where
+  pub path : IsOnPath t root m end count
+  pub within : count ≤ n
+  pub ends : (key : Key) → count < n → key_at t m count ≡ Some key → live_child t end key ≡ None
+
+-- the join of what two fields admit
+abbrev pub both_details : Option Detail → Option Detail → Option Detail
+both_details (Some d) (Some e) = Some (joined_detail d e)
+both_details _ _ = None
+
+-- what the fields of two maps' entries admit, joined
+abbrev pub joined_at : Trail → ℕ → ℕ → ℕ → Option Detail
+joined_at t end m k = both_details (detail_at t end k) (detail_at t m k)
+
+-- a field of the map at the end gets the join with what the other map's field admits
+pub record GetsJoin (t : Trail) (end m count f : ℕ) (d : Detail) : Type 0 where
+  pub place : ℕ
+  pub within : place < count
+  pub field : field_at t end place ≡ Some f
+  pub joined : joined_at t end m place ≡ Some d
+
+-- a new field gets what the other map's field admits
+pub record GetsSame (t : Trail) (m count n first f : ℕ) (d : Detail) : Type 0 where
+  pub place : ℕ
+  pub from : count ≤ place
+  pub within : place < n
+  pub field : f + count ≡ first + place
+  pub same : detail_at t m place ≡ Some d
+
+-- what fields get in a walk for the n keys of a map: up to the end of the live children the joins, and past it what the
+-- map's fields admit
+abbrev pub WalkGets : Trail → ℕ → ℕ → ℕ → ℕ → ℕ → ℕ → Detail → Type 0
+WalkGets t end m count n first f d = GetsJoin t end m count f d ⊎ GetsSame t m count n first f d
+
+-- a map that became unstable has a link
+abbrev pub AreLinked : Trail → Trail → Type 0
+AreLinked old new = (x : ℕ) → (bits_in old x).unstable ≡ false → IsTrue (bits_in new x).unstable → links_in new x ≢ []
+
+-- the first fields of a map were joined with those of another, k of so many
+pub record AreJoined (old new : View) (end m count n k : ℕ) : Type 0 where
+  pub view : new ≡ record old { trail = new.trail }
+  pub writes : Adds (Reshapes old.used NoMap (GetsJoin old.trail end m count)) old.trail new.trail
+  pub only : Adds WritesDetails old.trail new.trail
+  pub joined : (j : ℕ) → j < k → detail_at new.trail end j ≡ joined_at old.trail end m j
+  pub rest : (j : ℕ) → k ≤ j → j < count → detail_at new.trail end j ≡ detail_at old.trail end j
+  pub others : (j : ℕ) → k ≤ j → j < n → detail_at new.trail m j ≡ detail_at old.trail m j
+  pub tree : IsTree new.trail
+  pub heap : IsHeap new
+
+-- maps were made under a map with so many entries, the last of which has i
+pub record IsBuilt (old new : View) (base m c count n i : ℕ) : Type 0 where
+  pub writes : Adds (Reshapes old.used NoMap (GetsSame old.trail m count n old.used.fields)) old.trail new.trail
   pub opens : OpensNoRoot old.trail new.trail
-  pub needs : IsWithin need old.used new.used
+  pub linked : AreLinked old.trail new.trail
+  pub maps : new.used.maps + count ≡ old.used.maps + i
+  pub entries : new.used.entries + arrays_upto count ≡ old.used.entries + arrays_upto i
+  pub fields : new.used.fields + count ≡ old.used.fields + i
+  pub links : new.used.links + count ≡ old.used.links + i
+  pub objects : new.used.objects ≡ old.used.objects
+  pub slots : new.used.slots ≡ old.used.slots
+  pub cells : new.used.cells ≡ old.used.cells
+  pub shape : new.shape ≡ old.shape
+  pub gate : gate_in new.trail c ≡ Some (gate_with i false)
+  pub live : (bits_in new.trail c).deprecated ≡ false
+  pub prototype : prototype_in new.trail c ≡ prototype_in old.trail base
+  pub keys : (k : ℕ) → k < i → key_at new.trail c k ≡ key_at new.trail m k
+  pub shared : (k : ℕ) → k < count → field_at new.trail c k ≡ field_at old.trail base k
+  pub made : (k : ℕ) → count ≤ k → k < i → detail_at new.trail c k ≡ detail_at old.trail m k
+  pub kept : (f : ℕ) → f < old.used.fields → detail_in new.trail f ≡ detail_in old.trail f
+  pub ends : (key : Key) → i < n → key_at new.trail m i ≡ Some key → live_child new.trail c key ≡ None
+  pub tree : IsTree new.trail
+  pub heap : IsHeap new
+
+-- a walk came from a root to a shared and live map with the same prototype, whose n entries have the keys of another map.
+-- The maps that were there were come to, and those that were missing were made, within a need; what the fields of the
+-- former admitted was joined with what the other map's fields admit, and those of the latter admit what they do
+pub record IsWalked (old new : View) (root m c n : ℕ) : Type 0 where
+  pub end : ℕ
+  pub count : ℕ
+  pub ended : IsLiveEnd old.trail root m n end count
+  pub writes : Adds (Reshapes old.used NoMap (WalkGets old.trail end m count n old.used.fields)) old.trail new.trail
+  pub opens : OpensNoRoot old.trail new.trail
+  pub linked : AreLinked old.trail new.trail
+  pub needs : IsWithin (walk_need n) old.used new.used
   pub objects : new.used.objects ≡ old.used.objects
   pub slots : new.used.slots ≡ old.used.slots
   pub shape : new.shape ≡ old.shape
   pub gate : gate_in new.trail c ≡ Some (gate_with n false)
   pub live : (bits_in new.trail c).deprecated ≡ false
-  pub prototype : prototype_in new.trail c ≡ prototype_in old.trail from
+  pub prototype : prototype_in new.trail c ≡ prototype_in old.trail root
   pub keys : (k : ℕ) → k < n → key_at new.trail c k ≡ key_at new.trail m k
+  pub joined : (k : ℕ) → k < count → detail_at new.trail c k ≡ joined_at old.trail end m k
+  pub made : (k : ℕ) → count ≤ k → k < n → detail_at new.trail c k ≡ detail_at old.trail m k
   pub tree : IsTree new.trail
   pub heap : IsHeap new
 
@@ -56,9 +167,20 @@ pub record IsLike (t : Trail) (c m n : ℕ) (proto : Option ℕ) : Type 0 where
 abbrev pub shared_need : Trail → ℕ → Option ℕ → Option ℕ → Need
 shared_need t n proto of_null = both (walk_need n) (root_need (root_of t proto of_null))
 
--- the live map with the n keys of a map and another prototype was found or made, as was the root that it comes from
+-- the trail after the root of a prototype was made, where there was none
+abbrev pub with_root_for : Option ℕ → Trail → Option ℕ → ℕ → Trail
+with_root_for (Some r) t proto root = t
+with_root_for None t proto root = with_named_root t proto root
+
+-- the live map with the n keys of a map and another prototype was found or made, as was the root that it comes from. What
+-- the fields of maps that were found admitted was joined with what the map's fields admit, and those of new maps admit that
 pub record HasMapFor (old new : View) (null then_null : Option ℕ) (m c n : ℕ) (proto : Option ℕ) : Type 0 where
-  pub writes : Adds GrowsTree old.trail new.trail
+  pub root : ℕ
+  pub end : ℕ
+  pub count : ℕ
+  pub ended : IsLiveEnd (with_root_for (root_of old.trail proto null) old.trail proto root) root m n end count
+  pub writes : Adds (Reshapes old.used NoMap (WalkGets old.trail end m count n old.used.fields)) old.trail new.trail
+  pub linked : AreLinked old.trail new.trail
   pub roots : AreRoots new.trail then_null
   pub needs : IsWithin (shared_need old.trail n proto null) old.used new.used
   pub objects : new.used.objects ≡ old.used.objects
@@ -66,5 +188,7 @@ pub record HasMapFor (old new : View) (null then_null : Option ℕ) (m c n : ℕ
   pub shape : new.shape ≡ old.shape
   pub like : IsLike new.trail c m n proto
   pub live : (bits_in new.trail c).deprecated ≡ false
+  pub joined : (k : ℕ) → k < count → detail_at new.trail c k ≡ joined_at old.trail end m k
+  pub made : (k : ℕ) → count ≤ k → k < n → detail_at new.trail c k ≡ detail_at old.trail m k
   pub tree : IsTree new.trail
   pub heap : IsHeap new

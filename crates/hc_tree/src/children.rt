@@ -1,5 +1,5 @@
 //! The children of maps.
-ghost use Rattle.std.specs.Prelude.{◌≡◌, ◌+◌, ◌<◌, ℕ, false, None, Some, Ok, IfOk, IfSome, IsSomeAnd, All};
+ghost use Rattle.std.specs.Prelude.{◌≡◌, ◌+◌, ◌<◌, ℕ, false, None, Some, Ok, IfErr, IfOk, IfSome, IsSomeAnd, [], All};
 ghost use Rattle.hc_layout.specs.declared.shape.Region.TheVariants.{Maps, Entries, Fields};
 ghost use Rattle.hc_value.specs.Field.{IsClassInRange};
 ghost use Rattle.hc_value.specs.declared.prop.Kind.TheVariants.{AccessorProp};
@@ -7,12 +7,15 @@ ghost use Rattle.hc_heap.specs.Readings.{bits_in, gate_in, prototype_in, detail_
 ghost use Rattle.hc_heap.specs.Lawful.{IsClassThere, IsKey};
 ghost use Rattle.hc_heap.specs.Kept.{Adds};
 ghost use Rattle.hc_heap.specs.States.{IsHeap, Goes, HasRoom};
-ghost use Rattle.hc_descs.specs.Entries.{LacksName, count_of};
+ghost use Rattle.hc_descs.specs.Entries.{LacksName, count_of, field_at};
+ghost use Rattle.hc_fields.specs.Fields.{raised};
 ghost use Rattle.hc_links.specs.Chains.{links_in};
-ghost use Rattle.hc_tree.specs.Tree.{IsTree, IsChildFor, IsDeadFor, IsProperKey, tagged_field};
+ghost use Rattle.hc_tree.specs.Tree.{IsTree, IsChildFor, IsDeadFor, IsNarrow, IsProperKey, tagged_field};
+ghost use Rattle.hc_tree.specs.Details.{ChildGets, NoMap, Reshapes, child_detail};
 ghost use Rattle.hc_tree.specs.Needs.{HasSpace, IsSpaceExact, used_after, with_need};
-ghost use Rattle.hc_tree.specs.Growth.{MayGrow, EndsWith, MakesMap, IsStill, IsUnmoved, IsReadyChild, live_child, child_need, marked};
+ghost use Rattle.hc_tree.specs.Growth.{MayGrow, EndsWith, MakesMap, IsUnmoved, IsReadyChild, live_child, child_need, marked};
 
+use crate::fields::admit;
 use crate::laws::maps_are_kept;
 use crate::mark::mark_unstable;
 use crate::need::{has_space, of_child};
@@ -23,8 +26,9 @@ use hc_layout::{GateWord, Region};
 use hc_links::{child, link, links_are_chained, same_keys_are_equal};
 use hc_value::{Detail, Key};
 
-/// The live child of a map for a key. It is made where there is none, with a new field of this detail: then the map is made
-/// unstable first.
+/// The live child of a map for a key, whose last field admits a detail. A child that is there is asked to admit it: what its
+/// field admits is joined with the detail, in place. It is made where there is none, with a new field of the detail: then the
+/// map is made unstable first.
 pub fn child_or_make<P: Pace>(
     h: &mut Heap<P>,
     map: u32,
@@ -40,16 +44,17 @@ pub fn child_or_make<P: Pace>(
     requires accessor { key.kind ≡ AccessorProp → detail ≡ tagged_field }
     requires class { IsClassInRange detail.class }
     requires there { IsClassThere h.old.view.shape h.old.view.trail detail.class }
-    requires tagged { detail ≡ tagged_field }
+    requires narrow { IsNarrow detail }
     ensures live { IfOk result (λ c. live_child h.new.view.trail map key ≡ Some c) }
     ensures number { IfOk result (λ c. live_child h.old.view.trail map key ≡ None → c ≡ h.old.view.used.maps) }
     ensures child { IfOk result (λ c. IsSomeAnd (gate_in h.new.view.trail map) (λ g. IsChildFor h.new.view.trail map g c key)) }
-    ensures ends { IfOk result (λ c. EndsWith h.new.view.trail c (count_of h.old.view.trail map) key detail) }
+    ensures ends { IfOk result (λ c. EndsWith h.new.view.trail c (count_of h.old.view.trail map) key (child_detail h.old.view.trail (live_child h.old.view.trail map key) (count_of h.old.view.trail map) detail)) }
     ensures found { (c : ℕ) → live_child h.old.view.trail map key ≡ Some c → result ≡ Ok c }
     ensures space { IsSpaceExact h.old.view (child_need (live_child h.old.view.trail map key) (count_of h.old.view.trail map)) result }
     ensures used { h.new.view.used ≡ used_after result (child_need (live_child h.old.view.trail map key) (count_of h.old.view.trail map)) h.old.view.used }
-    ensures still { IsStill (live_child h.old.view.trail map key) result → IsUnmoved h.old h.new }
-    ensures writes { Adds (MakesMap h.old.view.used (Some map)) h.old.view.trail h.new.view.trail }
+    ensures still { IfErr result (λ e. IsUnmoved h.old h.new) }
+    ensures writes { Adds (Reshapes h.old.view.used NoMap (ChildGets h.old.view.trail (live_child h.old.view.trail map key) (count_of h.old.view.trail map) detail h.old.view.used.fields)) h.old.view.trail h.new.view.trail }
+    ensures raised { (c f : ℕ) → live_child h.old.view.trail map key ≡ Some c → field_at h.old.view.trail c (count_of h.old.view.trail map) ≡ Some f → h.new.view ≡ record h.old.view { trail = raised h.old.view.trail f detail } }
     ensures begins { IfOk result (λ c. live_child h.old.view.trail map key ≡ None → Adds (MakesMap h.old.view.used (Some map)) (marked h.old.view.trail map) h.new.view.trail) }
     ensures shape { h.new.view.shape ≡ h.old.view.shape }
     ensures tree { IsTree h.new.view.trail }
@@ -58,12 +63,14 @@ pub fn child_or_make<P: Pace>(
     ensures went { P.went h.old.pace h.old.desk.trail h.new.desk.trail h.new.pace }
 {
     h.stands();
+    maps_are_kept();
     same_keys_are_equal();
     gates_are_open();
+    let n = h.gate(map).unwrap().entries;
     if let Some(child) = live(h, map, key) {
+        admit(h, child, n, detail);
         return Ok(child);
     }
-    let n = h.gate(map).unwrap().entries;
     if !has_space(h, of_child(n)) {
         return Err(Space);
     }
@@ -71,7 +78,7 @@ pub fn child_or_make<P: Pace>(
 }
 
 // The newest child of a map for a key, unless it is deprecated.
-fn live<P: Pace>(h: &mut Heap<P>, map: u32, key: Key) -> Option<u32>
+pub(crate) fn live<P: Pace>(h: &mut Heap<P>, map: u32, key: Key) -> Option<u32>
     ensures live { result ≡ live_child h.old.view.trail map key }
     ensures same { IsUnmoved h.old h.new }
     ensures goes { Goes h.old.desk h.new.desk }
@@ -86,7 +93,13 @@ fn live<P: Pace>(h: &mut Heap<P>, map: u32, key: Key) -> Option<u32>
 }
 
 // Makes a child of a map with n entries, which has no live one for the key.
-fn make_child<P: Pace>(h: &mut Heap<P>, map: u32, key: Key, detail: Detail, n: u32) -> u32
+pub(crate) fn make_child<P: Pace>(
+    h: &mut Heap<P>,
+    map: u32,
+    key: Key,
+    detail: Detail,
+    n: u32,
+) -> u32
     requires tree { IsTree h.old.view.trail }
     requires open { IsSomeAnd (gate_in h.old.view.trail map) MayGrow }
     requires count { n ≡ count_of h.old.view.trail map }
@@ -97,14 +110,16 @@ fn make_child<P: Pace>(h: &mut Heap<P>, map: u32, key: Key, detail: Detail, n: u
     requires accessor { key.kind ≡ AccessorProp → detail ≡ tagged_field }
     requires class { IsClassInRange detail.class }
     requires there { IsClassThere h.old.view.shape h.old.view.trail detail.class }
-    requires tagged { detail ≡ tagged_field }
+    requires narrow { IsNarrow detail }
     requires dead { All (IsDeadFor h.old.view.trail (Some key)) (links_in h.old.view.trail map) }
     requires space { HasSpace h.old.view (child_need None n) }
     ensures number { result ≡ h.old.view.used.maps }
     ensures live { live_child h.new.view.trail map key ≡ Some result }
     ensures child { IsSomeAnd (gate_in h.new.view.trail map) (λ g. IsChildFor h.new.view.trail map g result key) }
     ensures ends { EndsWith h.new.view.trail result n key detail }
+    ensures bare { links_in h.new.view.trail result ≡ [] }
     ensures used { h.new.view.used ≡ with_need (child_need None n) h.old.view.used }
+    ensures gets { Adds (Reshapes h.old.view.used NoMap (ChildGets h.old.view.trail None n detail h.old.view.used.fields)) h.old.view.trail h.new.view.trail }
     ensures writes { Adds (MakesMap h.old.view.used (Some map)) h.old.view.trail h.new.view.trail }
     ensures begins { Adds (MakesMap h.old.view.used (Some map)) (marked h.old.view.trail map) h.new.view.trail }
     ensures shape { h.new.view.shape ≡ h.old.view.shape }
@@ -144,7 +159,7 @@ fn begin_child<P: Pace>(h: &mut Heap<P>, map: u32, key: Key, detail: Detail, n: 
     requires accessor { key.kind ≡ AccessorProp → detail ≡ tagged_field }
     requires class { IsClassInRange detail.class }
     requires there { IsClassThere h.old.view.shape h.old.view.trail detail.class }
-    requires tagged { detail ≡ tagged_field }
+    requires narrow { IsNarrow detail }
     requires dead { All (IsDeadFor h.old.view.trail (Some key)) (links_in h.old.view.trail map) }
     requires space { HasSpace h.old.view (child_need None n) }
     ensures number { result ≡ h.old.view.used.maps }
@@ -152,6 +167,7 @@ fn begin_child<P: Pace>(h: &mut Heap<P>, map: u32, key: Key, detail: Detail, n: 
     ensures detail { detail_in h.new.view.trail h.old.view.used.fields ≡ Some detail }
     ensures used { h.new.view.used ≡ record (with_need (child_need None n) h.old.view.used) { links = h.old.view.used.links } }
     ensures writes { Adds (MakesMap h.old.view.used (Some map)) h.old.view.trail h.new.view.trail }
+    ensures gets { Adds (Reshapes h.old.view.used NoMap (ChildGets h.old.view.trail None n detail h.old.view.used.fields)) h.old.view.trail h.new.view.trail }
     ensures bits { bits_in h.new.view.trail map ≡ bits_in h.old.view.trail map }
     ensures shape { h.new.view.shape ≡ h.old.view.shape }
     ensures tree { IsTree h.new.view.trail }

@@ -7,11 +7,11 @@ ghost use Rattle.hc_heap.specs.Readings.{no_array, gate_in, array_in};
 ghost use Rattle.hc_heap.specs.Kept.{Adds};
 ghost use Rattle.hc_heap.specs.States.{IsHeap, Goes, HasRoom, with_write};
 ghost use Rattle.hc_descs.specs.Copies.{HasArray};
-ghost use Rattle.hc_descs.specs.Entries.{count_of, IsOpenMap};
-ghost use Rattle.hc_tree.specs.Tree.{AreTagged, IsTree, gate_with};
+ghost use Rattle.hc_descs.specs.Entries.{count_of, field_at, IsOpenMap};
+ghost use Rattle.hc_tree.specs.Tree.{AreNarrow, IsTree, gate_with};
 ghost use Rattle.hc_tree.specs.Needs.{HasSpace, IsSpaceExact, used_after};
-ghost use Rattle.hc_tree.specs.Growth.{MayBePrototype, IsUnmoved, MakesMap};
-ghost use Rattle.hc_tree.specs.Copying.{MayBeLast, IsClosed, IsWhole, IsPrivateCopy, HasCopied, HasMore, FillsCopy, with_closed, filled_used, copy_need, copied_count, copied_array, copied_fields};
+ghost use Rattle.hc_tree.specs.Growth.{IsPlaced, MayBePrototype, IsUnmoved, MakesMap};
+ghost use Rattle.hc_tree.specs.Copying.{Extra, MayBeLast, IsClosed, IsWhole, IsPrivateCopy, HasCopied, HasMore, FillsCopy, with_closed, filled_used, copy_need, copied_count, copied_array, copied_fields};
 
 use crate::fields::new_fields;
 use crate::laws::maps_are_kept;
@@ -97,6 +97,7 @@ fn make_copy<P: Pace>(
     ensures went { P.went h.old.pace h.old.desk.trail h.new.desk.trail h.new.pace }
 {
     maps_are_kept();
+    unused_says_nothing();
     let copy = new_closed(h, proto);
     fill(h, map, copy, n, fresh, more);
     open_private(h, copy, copied(more, n));
@@ -158,8 +159,9 @@ fn fill<P: Pace>(
     requires fields { HasRoom h.old.view Fields (copied_fields fresh more n) }
     ensures entries { HasCopied fresh h.new.view.trail copy map n h.old.view.used.fields }
     ensures last { HasMore more h.new.view.trail copy n }
+    ensures number { (e : Extra) → more ≡ Some e → field_at h.new.view.trail copy n ≡ Some h.old.view.used.fields }
     ensures array { HasArray h.new.view.trail copy (copied_count more n) }
-    ensures plain { AreTagged h.old.view.trail → AreTagged h.new.view.trail }
+    ensures narrow { AreNarrow h.old.view.trail → AreNarrow h.new.view.trail }
     ensures used { h.new.view.used ≡ filled_used fresh more n h.old.view.used }
     ensures writes { Adds (FillsCopy copy h.old.view.used.entries h.old.view.used.fields) h.old.view.trail h.new.view.trail }
     ensures shape { h.new.view.shape ≡ h.old.view.shape }
@@ -186,8 +188,9 @@ fn fill_with_one<P: Pace>(h: &mut Heap<P>, map: u32, child: u32, n: u32, key: Ke
     requires fields { HasRoom h.old.view Fields 1 }
     ensures entries { HasCopied false h.new.view.trail child map n h.old.view.used.fields }
     ensures last { HasMore (Some (key, detail)) h.new.view.trail child n }
+    ensures number { field_at h.new.view.trail child n ≡ Some h.old.view.used.fields }
     ensures array { HasArray h.new.view.trail child (n + 1) }
-    ensures plain { AreTagged h.old.view.trail → AreTagged h.new.view.trail }
+    ensures narrow { AreNarrow h.old.view.trail → AreNarrow h.new.view.trail }
     ensures used { h.new.view.used ≡ filled_used false (Some (key, detail)) n h.old.view.used }
     ensures writes { Adds (FillsCopy child h.old.view.used.entries h.old.view.used.fields) h.old.view.trail h.new.view.trail }
     ensures shape { h.new.view.shape ≡ h.old.view.shape }
@@ -209,7 +212,7 @@ fn fill_alike<P: Pace>(h: &mut Heap<P>, map: u32, copy: u32, n: u32, fresh: bool
     requires fields { HasRoom h.old.view Fields (copied_fields fresh None n) }
     ensures entries { HasCopied fresh h.new.view.trail copy map n h.old.view.used.fields }
     ensures array { HasArray h.new.view.trail copy n }
-    ensures plain { AreTagged h.old.view.trail → AreTagged h.new.view.trail }
+    ensures narrow { AreNarrow h.old.view.trail → AreNarrow h.new.view.trail }
     ensures used { h.new.view.used ≡ filled_used fresh None n h.old.view.used }
     ensures writes { Adds (FillsCopy copy h.old.view.used.entries h.old.view.used.fields) h.old.view.trail h.new.view.trail }
     ensures shape { h.new.view.shape ≡ h.old.view.shape }
@@ -238,6 +241,7 @@ fn open_private<P: Pace>(h: &mut Heap<P>, map: u32, n: u32)
     requires closed { IsClosed h.old.view.trail map }
     requires few { n ≤ MAX_FAST }
     requires whole { IsWhole h.old.view.trail map n }
+    requires placed { IsPlaced h.old.view.trail map n }
     requires array { HasArray h.old.view.trail map n }
     ensures view { h.new.view ≡ with_write h.old.view (Gate map (gate_with n true)) }
     ensures tree { IsTree h.new.view.trail }

@@ -1,7 +1,9 @@
 //! What a lawful trail keeps of maps. The functions do nothing: each has a law as its contract, for a proof that calls it.
+ghost use Rattle.hc_tree.specs.Dying.{OneIsLive, OwnerIsFreed, OwnersStand};
 ghost use Rattle.hc_tree.specs.Kept.{MapsAreKept, TreesStay};
 
 use hc_heap::{details_rise, entries_are_kept, gates_are_open, written_is_kept};
+use hc_links::same_keys_are_equal;
 
 pub fn maps_are_kept()
     ensures law { MapsAreKept }
@@ -16,4 +18,22 @@ pub fn trees_stay()
     ensures law { TreesStay }
 {
     maps_are_kept();
+}
+
+pub fn owners_stand()
+    ensures law { OwnersStand }
+{
+    maps_are_kept();
+}
+
+pub fn one_is_live()
+    ensures law { OneIsLive }
+{
+    same_keys_are_equal();
+}
+
+pub fn owner_is_freed()
+    ensures law { OwnerIsFreed }
+{
+    same_keys_are_equal();
 }

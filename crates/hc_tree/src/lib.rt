@@ -3,6 +3,7 @@
 
 mod children;
 mod copies;
+mod dying;
 mod fields;
 mod laws;
 mod mark;
@@ -12,8 +13,9 @@ mod roots;
 
 pub use children::child_or_make;
 pub use copies::private_copy;
-pub use fields::detail_at;
-pub use laws::{maps_are_kept, trees_stay};
+pub use dying::deprecate;
+pub use fields::{admit, detail_at};
+pub use laws::{maps_are_kept, one_is_live, owner_is_freed, owners_stand, trees_stay};
 pub use mark::mark_unstable;
 pub use need::{
     NONE, Need, array_size, has_space, of_child, of_copy, of_longer_copy, of_retarget, of_root,

@@ -27,6 +27,7 @@ pub fn root<P: Pace>(
     ensures used { h.new.view.used ≡ used_after result (root_need (root_of h.old.view.trail proto of_null.old)) h.old.view.used }
     ensures still { IsStill (root_of h.old.view.trail proto of_null.old) result → IsUnmoved h.old h.new }
     ensures null_still { IsStill (root_of h.old.view.trail proto of_null.old) result → of_null.new ≡ of_null.old }
+    ensures number { IfOk result (λ r. root_of h.old.view.trail proto of_null.old ≡ None → r ≡ h.old.view.used.maps) }
     ensures made { IfOk result (λ r. root_of h.old.view.trail proto of_null.old ≡ None → h.new.view.trail ≡ with_named_root h.old.view.trail proto r) }
     ensures null { IfOk result (λ r. root_of h.old.view.trail proto of_null.old ≡ None → of_null.new ≡ of_null_after proto of_null.old r) }
     ensures null_root { IfSome of_null.new (λ r. IsRoot h.new.view.trail None r) }
@@ -65,6 +66,7 @@ fn root_of_object<P: Pace>(h: &mut Heap<P>, object: u32) -> Result<u32, Space>
     ensures space { IsSpaceExact h.old.view (root_need (root_in h.old.view.trail object).map) result }
     ensures used { h.new.view.used ≡ used_after result (root_need (root_in h.old.view.trail object).map) h.old.view.used }
     ensures still { IsStill (root_in h.old.view.trail object).map result → IsUnmoved h.old h.new }
+    ensures number { IfOk result (λ r. (root_in h.old.view.trail object).map ≡ None → r ≡ h.old.view.used.maps) }
     ensures made { IfOk result (λ r. (root_in h.old.view.trail object).map ≡ None → h.new.view.trail ≡ with_named_root h.old.view.trail (Some object) r) }
     ensures shape { h.new.view.shape ≡ h.old.view.shape }
     ensures tree { IsTree h.new.view.trail }
@@ -102,6 +104,7 @@ fn root_of_null<P: Pace>(h: &mut Heap<P>, of_null: &mut Option<u32>) -> Result<u
     ensures used { h.new.view.used ≡ used_after result (root_need of_null.old) h.old.view.used }
     ensures still { IsStill of_null.old result → IsUnmoved h.old h.new }
     ensures null_still { IsStill of_null.old result → of_null.new ≡ of_null.old }
+    ensures number { IfOk result (λ r. of_null.old ≡ None → r ≡ h.old.view.used.maps) }
     ensures made { IfOk result (λ r. of_null.old ≡ None → h.new.view.trail ≡ with_root h.old.view.trail None r) }
     ensures null { IfOk result (λ r. of_null.old ≡ None → of_null.new ≡ Some r) }
     ensures shape { h.new.view.shape ≡ h.old.view.shape }

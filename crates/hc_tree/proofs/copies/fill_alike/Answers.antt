@@ -7,7 +7,7 @@ use Rattle.hc_heap.specs.Frames.{adds-none}
 use Rattle.hc_descs.specs.Entries.{AreFree, entries_in}
 use Rattle.hc_descs.specs.Copies.{FillsArray, HasKeysOf, HasOwnArray}
 use Rattle.hc_tree.specs.Copying.{HasNewFields, HasCopied}
-use Rattle.hc_tree.proofs.Arrays.{no-has, own-has, plain-same}
+use Rattle.hc_tree.proofs.Arrays.{no-has, own-has, narrow-same}
 use Rattle.hc_tree.proofs.Made.{array-same, gate-same}
 use Rattle.hc_tree.proofs.Filled.{count-is, some-entries, still-open, array-fills, both-fill, detail-same, has-new, like-made, used-new, room-kept}
 use Rattle.hc_tree.proofs.copies.fill_alike.Goals as goal
@@ -32,10 +32,10 @@ returns-then-not-fresh-clause-array g c =
     (subst (λ (k : ℕ). HasOwnArray end c.args.copy k v.used.entries) count c.copy_all.ensures.array)
     (subst (λ (k : ℕ). AreFree end (v.used.entries + k)) count c.copy_all.ensures.spare)
 
-pub returns-then-not-fresh-clause-plain : goal.returns-then-not-fresh-clause-plain
-returns-then-not-fresh-clause-plain g c plain =
+pub returns-then-not-fresh-clause-narrow : goal.returns-then-not-fresh-clause-narrow
+returns-then-not-fresh-clause-narrow g c narrow =
     let v = c.args.h.now.view in
-    plain-same v.trail c.copy_all.new.h.view.trail (λ x. detail-same c.args.copy v.used.entries x v.trail c.copy_all.new.h.view.trail c.copy_all.ensures.writes) plain
+    narrow-same v.trail c.copy_all.new.h.view.trail (λ x. detail-same c.args.copy v.used.entries x v.trail c.copy_all.new.h.view.trail c.copy_all.ensures.writes) narrow
 
 pub copy_keys-requires-clause-bare : goal.copy_keys-requires-clause-bare
 copy_keys-requires-clause-bare g c =
@@ -123,8 +123,8 @@ returns-clause-array g c =
     (subst (λ (k : ℕ). HasOwnArray end c.args.copy k mid.used.entries) count c.copy_keys.ensures.array)
     (subst (λ (k : ℕ). AreFree end (mid.used.entries + k)) count c.copy_keys.ensures.spare)
 
-pub returns-clause-plain : goal.returns-clause-plain
-returns-clause-plain g c plain =
+pub returns-clause-narrow : goal.returns-clause-narrow
+returns-clause-narrow g c narrow =
     let mid = c.new_fields-first.new.h.view in
     let end = c.copy_keys.new.h.view.trail in
-    plain-same mid.trail end (λ x. detail-same c.args.copy mid.used.entries x mid.trail end c.copy_keys.ensures.writes) (c.new_fields-first.ensures.plain plain)
+    narrow-same mid.trail end (λ x. detail-same c.args.copy mid.used.entries x mid.trail end c.copy_keys.ensures.writes) (c.new_fields-first.ensures.narrow narrow)

@@ -8,7 +8,8 @@ use Rattle.hc_heap.specs.Kept.{Adds}
 use Rattle.hc_heap.specs.States.{View, with_write}
 use Rattle.hc_descs.specs.Copies.{HasArray}
 use Rattle.hc_tree.specs.Tree.{gate_with}
-use Rattle.hc_tree.specs.Growth.{MakesMap}
+use Rattle.hc_tree.specs.Growth.{IsPlaced, MakesMap}
+use Rattle.hc_tree.proofs.Placed.{copied-placed}
 use Rattle.hc_tree.specs.Copying.{MayBeLast, FillsCopy, HasCopied, IsPrivateCopy, IsWhole, with_closed}
 use Rattle.hc_tree.proofs.Whole.{fill-tree, fill-closed, fill-prototype, filled-whole, may-still, private-copy, makes-copy}
 use Rattle.hc_tree.proofs.copies.make_copy.Goals as goal
@@ -23,7 +24,7 @@ open_private-requires-clause-tree g c =
     let a = c.new_closed-copy.new.h.view in
     let b = c.fill.new.h.view in
     let after = subst (λ (s : Shape). Lawful s b.trail) c.fill.ensures.shape c.fill.ensures.heap.lawful in
-    fill-tree c.maps_are_kept.ensures.law a.shape a.trail b.trail c.new_closed-copy.result a.used.entries a.used.fields c.new_closed-copy.ensures.heap.lawful after c.fill.ensures.writes c.new_closed-copy.ensures.heap.arrays c.new_closed-copy.ensures.closed (c.fill.ensures.plain c.new_closed-copy.ensures.tree.plain) c.new_closed-copy.ensures.tree
+    fill-tree c.maps_are_kept.ensures.law a.shape a.trail b.trail c.new_closed-copy.result a.used.entries a.used.fields c.new_closed-copy.ensures.heap.lawful after c.fill.ensures.writes c.new_closed-copy.ensures.heap.arrays c.new_closed-copy.ensures.closed (c.fill.ensures.narrow c.new_closed-copy.ensures.tree.narrow) c.new_closed-copy.ensures.tree
 
 pub open_private-requires-clause-closed : goal.open_private-requires-clause-closed
 open_private-requires-clause-closed g c =
@@ -42,7 +43,19 @@ open_private-requires-clause-whole g c =
     let may = subst (λ (w : View). IfSome c.args.more (λ e. MayBeLast w.shape w.trail c.args.map e.0 e.1)) (sym c.new_closed-copy.ensures.view) (may-still v.shape c.args.more v.trail c.args.map copy c.args.proto c.requires.more) in
     subst (λ (n : ℕ). IsWhole b.trail copy n) (sym c.copied.ensures)
     (filled-whole c.maps_are_kept.ensures.law a.shape c.args.fresh c.args.more a.trail b.trail copy a.used.entries a.used.fields c.args.map c.args.n a.used.fields
-    c.new_closed-copy.ensures.heap.lawful after c.fill.ensures.writes some c.new_closed-copy.ensures.heap.arrays c.new_closed-copy.ensures.closed (c.fill.ensures.plain c.new_closed-copy.ensures.tree.plain) c.new_closed-copy.ensures.tree may c.fill.ensures.entries c.fill.ensures.last)
+    c.new_closed-copy.ensures.heap.lawful after c.fill.ensures.writes some c.new_closed-copy.ensures.heap.arrays c.new_closed-copy.ensures.closed (c.fill.ensures.narrow c.new_closed-copy.ensures.tree.narrow) c.new_closed-copy.ensures.tree may c.fill.ensures.entries c.fill.ensures.last)
+
+pub open_private-requires-clause-placed : goal.open_private-requires-clause-placed
+open_private-requires-clause-placed g c =
+    let v = c.args.h.now.view in
+    let a = c.new_closed-copy.new.h.view in
+    let b = c.fill.new.h.view in
+    let is = ap (λ (w : View). w.trail) c.new_closed-copy.ensures.view in
+    let after = subst (λ (s : Shape). Lawful s b.trail) c.fill.ensures.shape c.fill.ensures.heap.lawful in
+    let some = subst (λ (t : Trail). IsSomeAnd (gate_in t c.args.map) (λ x. x.entries ≡ c.args.n)) (sym is) c.requires.open in
+    subst (λ (n : ℕ). IsPlaced b.trail c.new_closed-copy.result n) (sym c.copied.ensures)
+    (copied-placed c.maps_are_kept.ensures.law c.unused_says_nothing.ensures.law a b c.new_closed-copy.result a.used.entries a.used.fields c.args.map c.args.n c.new_closed-copy.ensures.heap after c.fill.ensures.writes some
+    (open_private-requires-clause-tree g c) c.args.fresh c.args.more c.requires.alone c.fill.ensures.entries c.fill.ensures.number)
 
 pub open_private-requires-clause-array : goal.open_private-requires-clause-array
 open_private-requires-clause-array g c = subst (λ (n : ℕ). HasArray c.fill.new.h.view.trail c.new_closed-copy.result n) (sym c.copied.ensures) c.fill.ensures.array

@@ -16,4 +16,4 @@ returns-clause-tree g c =
     let h = c.requires.whole in
     let after = subst IsHeap c.set_gate.ensures.view c.set_gate.ensures.heap in
     subst (λ (w : View). IsTree w.trail) (sym c.set_gate.ensures.view)
-    (private-tree c.maps_are_kept.ensures.law v.shape v.trail c.args.map c.args.n after.lawful c.requires.closed h.distinct h.proper h.tagged c.requires.array c.requires.tree)
+    (private-tree c.maps_are_kept.ensures.law v.shape v.trail c.args.map c.args.n after.lawful c.requires.closed h.distinct h.proper h.tagged c.requires.placed c.requires.array c.requires.tree)

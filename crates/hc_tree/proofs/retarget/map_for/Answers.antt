@@ -6,7 +6,7 @@ walk-requires-clause-map g c =
     let v = c.args.h.now.view in
     let w = c.root.new.h.view in
     let e = c.in-Ok.ensures in
-    let it : IsRooted v w c.args.of_null.now c.root.new.of_null c.args.proto c.in-Ok.root = is-rooted c.args.h.now c.root.new.h c.args.of_null.now c.root.new.of_null c.args.proto c.in-Ok.root e.root e.still e.null_still e.made e.null e.null_root e.used e.shape e.tree e.heap in
+    let it : IsRooted v w c.args.of_null.now c.root.new.of_null c.args.proto c.in-Ok.root = is-rooted c.args.h.now c.root.new.h c.args.of_null.now c.root.new.of_null c.args.proto c.in-Ok.root e.root e.still e.null_still e.number e.made e.null e.null_root e.used e.shape e.tree e.heap in
     open-rooted c.maps_are_kept.ensures.law v w c.args.of_null.now c.root.new.of_null c.args.proto c.in-Ok.root c.stands.ensures.heap it c.args.map c.args.n c.requires.map
 
 pub returns-clause-found : goal.returns-clause-found
@@ -14,7 +14,7 @@ returns-clause-found g c =
     let v = c.args.h.now.view in
     let w = c.root.new.h.view in
     let e = c.in-Ok.ensures in
-    let it : IsRooted v w c.args.of_null.now c.root.new.of_null c.args.proto c.in-Ok.root = is-rooted c.args.h.now c.root.new.h c.args.of_null.now c.root.new.of_null c.args.proto c.in-Ok.root e.root e.still e.null_still e.made e.null e.null_root e.used e.shape e.tree e.heap in
+    let it : IsRooted v w c.args.of_null.now c.root.new.of_null c.args.proto c.in-Ok.root = is-rooted c.args.h.now c.root.new.h c.args.of_null.now c.root.new.of_null c.args.proto c.in-Ok.root e.root e.still e.null_still e.number e.made e.null e.null_root e.used e.shape e.tree e.heap in
     map-found c.maps_are_kept.ensures.law v w c.args.of_null.now c.root.new.of_null c.args.proto c.in-Ok.root c.stands.ensures.heap it c.walk.new.h.view c.args.map c.walk.result c.args.n c.requires.roots c.walk.ensures.walked
 
 pub walk-requires-clause-live : goal.walk-requires-clause-live

@@ -1,28 +1,101 @@
-use Rattle.std.proofs.Common.{◌<◌, sym, subst}
-use Rattle.std.specs.Prelude.{IsSomeAnd}
-use Rattle.hc_heap.specs.Frames.{goes-none, goes-on}
-use Rattle.hc_tree.proofs.Walked.{walked-none, walked-later, walked-space, walked-more}
+use Rattle.std.proofs.Common.{◌≡◌, ◌∙◌, ℕ, ap, sym, subst}
+use Rattle.hc_heap.specs.States.{HeapState, View}
+use Rattle.hc_descs.specs.Entries.{count_of, entries_in}
+use Rattle.hc_tree.specs.Walking.{AreJoined, IsLiveEnd}
+use Rattle.hc_tree.proofs.Walked.{joined-live, joined-gate, joined-map, joined-keys, joined-ends, walked}
 use Rattle.hc_tree.proofs.retarget.walk.Goals as goal
 
-pub loop-k-init : goal.loop-k-init
-loop-k-init g c = record {
-  walked = walked-none c.args.h.now.view c.args.root c.args.map c.stands.ensures.heap c.requires.tree c.requires.root c.requires.live;
-  goes = goes-none c.args.h.now.desk;
-  went = g.met.P.Pace.stays c.args.h.now.pace c.args.h.now.desk.trail;
-}
+pub build-requires-clause-live : goal.build-requires-clause-live
+build-requires-clause-live g c =
+    let v = c.args.h.now.view in
+    let w = c.admit_all.new.h.view in
+    let m = c.args.map in
+    let n = c.args.n in
+    let end = c.live_end-end.result in
+    let count = c.unwrap-count.result.entries in
+    let first : c.live_end-end.new.h.view ≡ v = ap (λ (s : HeapState g.row.P.Denot). s.view) c.live_end-end.ensures.same in
+    let read : c.gate.new.self.view ≡ v = ap (λ (s : HeapState g.row.P.Denot). s.view) c.gate.ensures.new ∙ first in
+    let size : count ≡ count_of v.trail end = ap entries_in (sym c.unwrap-count.ensures ∙ c.gate.ensures.value) ∙ ap (λ (x : View). count_of x.trail end) first in
+    let ended : IsLiveEnd v.trail c.args.root m n end count = subst (λ (x : ℕ). IsLiveEnd v.trail c.args.root m n end x) (sym size) c.live_end-end.ensures.ended in
+    let it : AreJoined v w end m count n count = subst (λ (x : View). AreJoined x w end m count n count) read c.admit_all.ensures.joined in
+    joined-live c.maps_are_kept.ensures.law c.unused_says_nothing.ensures.law v w c.args.root end m count n c.stands.ensures.heap ended it c.requires.map
 
-pub step-at-requires-clause-entry : goal.step-at-requires-clause-entry
-step-at-requires-clause-entry g c =
-    let after = walked-later c.maps_are_kept.ensures.law c.args.h.now.view c.loop-k.h.view c.args.root c.args.map c.loop-k.at c.loop-k.k c.stands.ensures.heap c.loop-k.invariant.walked in
-    subst (λ g. IsSomeAnd g (λ x. c.loop-k.k < x.entries)) (sym (after.written.gate c.args.map _ c.requires.map)) c.loop-k-test.true
+pub build-requires-clause-open : goal.build-requires-clause-open
+build-requires-clause-open g c =
+    let v = c.args.h.now.view in
+    let w = c.admit_all.new.h.view in
+    let m = c.args.map in
+    let n = c.args.n in
+    let end = c.live_end-end.result in
+    let count = c.unwrap-count.result.entries in
+    let first : c.live_end-end.new.h.view ≡ v = ap (λ (s : HeapState g.row.P.Denot). s.view) c.live_end-end.ensures.same in
+    let read : c.gate.new.self.view ≡ v = ap (λ (s : HeapState g.row.P.Denot). s.view) c.gate.ensures.new ∙ first in
+    let size : count ≡ count_of v.trail end = ap entries_in (sym c.unwrap-count.ensures ∙ c.gate.ensures.value) ∙ ap (λ (x : View). count_of x.trail end) first in
+    let ended : IsLiveEnd v.trail c.args.root m n end count = subst (λ (x : ℕ). IsLiveEnd v.trail c.args.root m n end x) (sym size) c.live_end-end.ensures.ended in
+    let it : AreJoined v w end m count n count = subst (λ (x : View). AreJoined x w end m count n count) read c.admit_all.ensures.joined in
+    joined-gate c.maps_are_kept.ensures.law c.unused_says_nothing.ensures.law v w c.args.root end m count n c.stands.ensures.heap ended it c.requires.map
 
-pub step-at-requires-clause-space : goal.step-at-requires-clause-space
-step-at-requires-clause-space g c = walked-space c.maps_are_kept.ensures.law c.args.h.now.view c.loop-k.h.view c.args.root c.args.map c.loop-k.at c.loop-k.k c.stands.ensures.heap c.loop-k.invariant.walked c.args.n c.loop-k-test.true c.requires.space
+pub build-requires-clause-keys : goal.build-requires-clause-keys
+build-requires-clause-keys g c =
+    let v = c.args.h.now.view in
+    let w = c.admit_all.new.h.view in
+    let m = c.args.map in
+    let n = c.args.n in
+    let end = c.live_end-end.result in
+    let count = c.unwrap-count.result.entries in
+    let first : c.live_end-end.new.h.view ≡ v = ap (λ (s : HeapState g.row.P.Denot). s.view) c.live_end-end.ensures.same in
+    let read : c.gate.new.self.view ≡ v = ap (λ (s : HeapState g.row.P.Denot). s.view) c.gate.ensures.new ∙ first in
+    let size : count ≡ count_of v.trail end = ap entries_in (sym c.unwrap-count.ensures ∙ c.gate.ensures.value) ∙ ap (λ (x : View). count_of x.trail end) first in
+    let ended : IsLiveEnd v.trail c.args.root m n end count = subst (λ (x : ℕ). IsLiveEnd v.trail c.args.root m n end x) (sym size) c.live_end-end.ensures.ended in
+    let it : AreJoined v w end m count n count = subst (λ (x : View). AreJoined x w end m count n count) read c.admit_all.ensures.joined in
+    joined-keys c.maps_are_kept.ensures.law c.unused_says_nothing.ensures.law v w c.args.root end m count n c.stands.ensures.heap ended it c.requires.map
 
-pub loop-k-preserved : goal.loop-k-preserved
-loop-k-preserved g c = record {
-  walked = walked-more c.maps_are_kept.ensures.law c.args.h.now.view c.loop-k.h.view c.args.root c.args.map c.loop-k.at c.loop-k.k c.stands.ensures.heap c.loop-k.invariant.walked
-      c.gates_are_open.ensures.law c.step-at.new.h.view c.step-at.result c.args.n c.requires.map c.loop-k-test.true c.step-at.ensures.walked;
-  goes = goes-on c.args.h.now.desk c.loop-k.h.desk c.step-at.new.h.desk c.loop-k.invariant.goes c.step-at.ensures.goes;
-  went = g.met.P.Pace.goes_on _ _ _ _ _ _ c.loop-k.invariant.went c.step-at.ensures.went;
-}
+pub build-requires-clause-map : goal.build-requires-clause-map
+build-requires-clause-map g c =
+    let v = c.args.h.now.view in
+    let w = c.admit_all.new.h.view in
+    let m = c.args.map in
+    let n = c.args.n in
+    let end = c.live_end-end.result in
+    let count = c.unwrap-count.result.entries in
+    let first : c.live_end-end.new.h.view ≡ v = ap (λ (s : HeapState g.row.P.Denot). s.view) c.live_end-end.ensures.same in
+    let read : c.gate.new.self.view ≡ v = ap (λ (s : HeapState g.row.P.Denot). s.view) c.gate.ensures.new ∙ first in
+    let size : count ≡ count_of v.trail end = ap entries_in (sym c.unwrap-count.ensures ∙ c.gate.ensures.value) ∙ ap (λ (x : View). count_of x.trail end) first in
+    let ended : IsLiveEnd v.trail c.args.root m n end count = subst (λ (x : ℕ). IsLiveEnd v.trail c.args.root m n end x) (sym size) c.live_end-end.ensures.ended in
+    let it : AreJoined v w end m count n count = subst (λ (x : View). AreJoined x w end m count n count) read c.admit_all.ensures.joined in
+    joined-map c.maps_are_kept.ensures.law c.unused_says_nothing.ensures.law v w c.args.root end m count n c.stands.ensures.heap ended it c.requires.map
+
+pub build-requires-clause-ends : goal.build-requires-clause-ends
+build-requires-clause-ends g c =
+    let v = c.args.h.now.view in
+    let w = c.admit_all.new.h.view in
+    let m = c.args.map in
+    let n = c.args.n in
+    let end = c.live_end-end.result in
+    let count = c.unwrap-count.result.entries in
+    let first : c.live_end-end.new.h.view ≡ v = ap (λ (s : HeapState g.row.P.Denot). s.view) c.live_end-end.ensures.same in
+    let read : c.gate.new.self.view ≡ v = ap (λ (s : HeapState g.row.P.Denot). s.view) c.gate.ensures.new ∙ first in
+    let size : count ≡ count_of v.trail end = ap entries_in (sym c.unwrap-count.ensures ∙ c.gate.ensures.value) ∙ ap (λ (x : View). count_of x.trail end) first in
+    let ended : IsLiveEnd v.trail c.args.root m n end count = subst (λ (x : ℕ). IsLiveEnd v.trail c.args.root m n end x) (sym size) c.live_end-end.ensures.ended in
+    let it : AreJoined v w end m count n count = subst (λ (x : View). AreJoined x w end m count n count) read c.admit_all.ensures.joined in
+    joined-ends c.maps_are_kept.ensures.law c.unused_says_nothing.ensures.law v w c.args.root end m count n c.stands.ensures.heap ended it c.requires.map
+
+pub returns-clause-walked : goal.returns-clause-walked
+returns-clause-walked g c =
+    let v = c.args.h.now.view in
+    let w = c.admit_all.new.h.view in
+    let m = c.args.map in
+    let n = c.args.n in
+    let end = c.live_end-end.result in
+    let count = c.unwrap-count.result.entries in
+    let first : c.live_end-end.new.h.view ≡ v = ap (λ (s : HeapState g.row.P.Denot). s.view) c.live_end-end.ensures.same in
+    let read : c.gate.new.self.view ≡ v = ap (λ (s : HeapState g.row.P.Denot). s.view) c.gate.ensures.new ∙ first in
+    let size : count ≡ count_of v.trail end = ap entries_in (sym c.unwrap-count.ensures ∙ c.gate.ensures.value) ∙ ap (λ (x : View). count_of x.trail end) first in
+    let ended : IsLiveEnd v.trail c.args.root m n end count = subst (λ (x : ℕ). IsLiveEnd v.trail c.args.root m n end x) (sym size) c.live_end-end.ensures.ended in
+    let it : AreJoined v w end m count n count = subst (λ (x : View). AreJoined x w end m count n count) read c.admit_all.ensures.joined in
+    walked c.maps_are_kept.ensures.law c.unused_says_nothing.ensures.law v w c.args.root end m count n c.stands.ensures.heap ended it c.requires.map c.build.new.h.view c.build.result c.build.ensures.built
+
+pub returns-clause-went : goal.returns-clause-went
+returns-clause-went g c =
+    let on = g.met.P.Pace.goes_on in
+    on _ _ _ _ _ _ (on _ _ _ _ _ _ (on _ _ _ _ _ _ c.live_end-end.ensures.went c.gate.ensures.went) c.admit_all.ensures.went) c.build.ensures.went

@@ -1,0 +1,57 @@
+-- What the fields of maps admit, and which writes of the tree change that.
+use Rattle.std.specs.Prelude.{◌≡◌, ◌⊎◌, ℕ, ◌≤◌, IsTrue, Option, Some, None}
+use Rattle.hc_layout.specs.declared.shape.Shape.{Shape}
+use Rattle.hc_value.specs.Field.{joined_detail}
+use Rattle.hc_value.specs.declared.field.Detail.{Detail}
+use Rattle.hc_heap.specs.Writes.{Write, Trail, Gate, Parent, Prototype, Bits, Base, Array, Head, EntryKey, Reference, Owner, FieldDetail, LinkKey, LinkChild, LinkNext, Root}
+use Rattle.hc_heap.specs.Readings.{bits_in, detail_in, root_in}
+use Rattle.hc_descs.specs.Entries.{field_at}
+pub use Rattle.hc_descs.specs.Entries.{detail_of, detail_at}
+
+-- what a field admits, joined with another detail; where nothing was written of it, the other alone
+abbrev pub joined_with : Option Detail → Detail → Detail
+joined_with (Some e) d = joined_detail e d
+joined_with None d = d
+
+-- what the last field of a key's child admits after it was asked to admit a detail: in the child that was there the join with
+-- what it admitted, and in a new one the detail
+abbrev pub child_detail : Trail → Option ℕ → ℕ → Detail → Detail
+child_detail t (Some c) n d = joined_with (detail_at t c n) d
+child_detail t None n d = d
+
+-- Writes
+
+-- writes of new maps, entries, fields and links, of heads and of roots that are named. Of a map that was there only bits are
+-- written, and it is deprecated only where it is one of those that die; a field gets only the details that are said of it
+abbrev pub Reshapes : Shape → (ℕ → Type 0) → (ℕ → Detail → Type 0) → Trail → Write → Type 0
+Reshapes used Dies Gets t (Gate m g) = used.maps ≤ m
+Reshapes used Dies Gets t (Parent m q) = used.maps ≤ m
+Reshapes used Dies Gets t (Prototype m q) = used.maps ≤ m
+Reshapes used Dies Gets t (Base m b) = used.maps ≤ m
+Reshapes used Dies Gets t (Array m a) = used.maps ≤ m
+Reshapes used Dies Gets t (EntryKey e key) = used.entries ≤ e
+Reshapes used Dies Gets t (Reference e f) = used.entries ≤ e
+Reshapes used Dies Gets t (Owner f m) = used.fields ≤ f
+Reshapes used Dies Gets t (FieldDetail f d) = Gets f d
+Reshapes used Dies Gets t (LinkKey l key) = used.links ≤ l
+Reshapes used Dies Gets t (LinkChild l c) = used.links ≤ l
+Reshapes used Dies Gets t (LinkNext l n) = used.links ≤ l
+Reshapes used Dies Gets t (Bits m b) = (b.deprecated ≡ (bits_in t m).deprecated) ⊎ (Dies m × IsTrue b.deprecated)
+Reshapes used Dies Gets t (Head m l) = Unit {0}
+Reshapes used Dies Gets t (Root o r) = (r.is_proto ≡ (root_in t o).is_proto) × ((m : ℕ) → (root_in t o).map ≡ Some m → r.map ≡ Some m)
+Reshapes used Dies Gets t _ = ⊥
+
+-- no map dies
+abbrev pub NoMap : ℕ → Type 0
+NoMap m = ⊥
+
+-- what a field gets where the child of a map with n entries is asked to admit a detail: the last field of the child that was
+-- there the join, or else the first new field the detail
+abbrev pub ChildGets : Trail → Option ℕ → ℕ → Detail → ℕ → ℕ → Detail → Type 0
+ChildGets t (Some c) n d first f e = (field_at t c n ≡ Some f) × (e ≡ joined_with (detail_in t f) d)
+ChildGets t None n d first f e = (f ≡ first) × (e ≡ d)
+
+-- writes of details alone
+abbrev pub WritesDetails : Trail → Write → Type 0
+WritesDetails t (FieldDetail f d) = Unit {0}
+WritesDetails t _ = ⊥
