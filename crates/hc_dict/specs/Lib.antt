@@ -1,1 +1,3 @@
 pub mod Dict
+pub mod Held
+pub mod Changes

@@ -1,39 +1,43 @@
 //! The table of a slow object: its properties in order, each found by its name.
 #![tactic(auto)]
 
-ghost use Rattle.std.specs.Prelude.{◌≡◌, ◌↔◌, ◌<◌, ◌≤◌, None, Some, [], ◌∷◌, ◌++◌, length, slice_get, slice_set, IsTrue, IfSome, IfErr, OnOk, OnErr};
+ghost use Rattle.std.specs.Prelude.{◌≡◌, ◌↔◌, ◌+◌, ◌<◌, ◌≤◌, None, Some, [], ◌∷◌, ◌++◌, length, slice_get, slice_set, IsTrue, IfSome, IfErr, OnOk, OnErr};
+ghost use Rattle.indexmap.specs.IndexMap.{index_map_len, spare};
 ghost use Rattle.hc_table.specs.Changes.{name_at, removed_at};
 ghost use Rattle.hc_table.specs.Numbers.{IsNameNumber};
 ghost use Rattle.hc_table.specs.World.{place_of, HaveDistinctNames};
+ghost use Rattle.hc_dict.specs.Dict.{seated, LeadToSeats};
 
-use hc_value::{Attrs, Held, Prop};
+mod dictionary;
+mod seats;
+
+pub use dictionary::{Change, Dictionary};
+use hc_value::Prop;
 use indexmap::IndexMap;
+use seats::Seats;
 use std::alloc::Global;
 use std::marker::Model;
 
-// What a property is beside its name.
-#[derive(Clone, Copy)]
-struct Contents {
-    attrs: Attrs,
-    held: Held,
-}
-
 /// The properties of an object in order. No two have one name.
+///
+/// A property that is taken away leaves a gap behind, so that the others need not move. Where there are more gaps than
+/// properties, they are closed; `close` is for a walk over all places.
 #[derive(Drop)]
 pub struct Dict {
-    map: IndexMap<u32, Contents>,
+    seats: Seats,
+    names: IndexMap<u32, usize>,
 }
 
 impl Model for Dict {
     ghost use Rattle.std.specs.Prelude.{List};
     ghost use Rattle.hc_value.specs.declared.prop.Prop.{Prop};
-    ghost use Rattle.hc_dict.specs.Dict.{props_of, AreNamed};
+    ghost use Rattle.hc_dict.specs.Dict.{seated, AreFound};
 
     ghost Value = { List Prop };
 
-    ghost view = { λ d. props_of d.map.entries };
+    ghost view = { λ d. seated d.seats };
 
-    ghost invariant = { λ d. AreNamed (props_of d.map.entries) };
+    ghost invariant = { λ d. AreFound d.seats d.names.entries };
 }
 
 impl Dict {
@@ -42,7 +46,8 @@ impl Dict {
         ensures { result ≡ [] }
     {
         Dict {
-            map: IndexMap::new(alloc),
+            seats: Seats::new(alloc),
+            names: IndexMap::new(alloc),
         }
     }
 
@@ -52,14 +57,14 @@ impl Dict {
         ensures within { length self.now ≤ 1048576 }
         ensures distinct { HaveDistinctNames self.now }
     {
-        self.map.len() as u32
+        self.seats.count() as u32
     }
 
     /// Whether there are no properties.
     pub fn is_empty(&self) -> bool
         ensures { IsTrue result ↔ (self.now ≡ []) }
     {
-        self.map.is_empty()
+        self.seats.count() == 0
     }
 
     /// The place of the property of a name, by the index of names.
@@ -69,7 +74,8 @@ impl Dict {
         ensures named { IfSome result (λ i. name_at self.now i ≡ Some name) }
         ensures distinct { HaveDistinctNames self.now }
     {
-        Some(self.map.get_index_of(&name)? as u32)
+        let seat = *self.names.get(&name)?;
+        Some(self.seats.before(seat) as u32)
     }
 
     /// The property at a place.
@@ -79,12 +85,8 @@ impl Dict {
         ensures number { IsNameNumber result.name }
         ensures distinct { HaveDistinctNames self.now }
     {
-        let (name, contents) = self.map.get_index(i as usize).unwrap();
-        Prop {
-            name: *name,
-            attrs: contents.attrs,
-            held: contents.held,
-        }
+        let (_seat, prop) = self.seats.find(i as usize);
+        prop
     }
 
     /// Puts a property of a new name last. For want of memory alone it hands the property back.
@@ -96,8 +98,11 @@ impl Dict {
         ensures handed_back { IfErr result (λ back. back ≡ p) }
         ensures distinct { HaveDistinctNames self.new }
     {
-        let Prop { name, attrs, held } = p;
-        let Ok(_replaced) = self.map.insert(name, Contents { attrs, held }) else {
+        let Ok(_replaced) = self.names.insert(p.name, self.seats.len()) else {
+            return Err(p);
+        };
+        let Ok(()) = self.seats.push(p) else {
+            let _seat = self.names.swap_remove(&p.name);
             return Err(p);
         };
         Ok(())
@@ -109,10 +114,8 @@ impl Dict {
         ensures put { self.new ≡ slice_set self.old i p }
         ensures distinct { HaveDistinctNames self.new }
     {
-        self.map[i as usize] = Contents {
-            attrs: p.attrs,
-            held: p.held,
-        };
+        let (seat, _old) = self.seats.find(i as usize);
+        self.seats.set(seat, p);
     }
 
     /// Takes the property at a place away. The others keep their order. It takes no memory.
@@ -121,6 +124,40 @@ impl Dict {
         ensures removed { self.new ≡ removed_at self.old i }
         ensures distinct { HaveDistinctNames self.new }
     {
-        self.map.shift_remove_index(i as usize);
+        let (seat, prop) = self.seats.find(i as usize);
+        self.seats.clear(seat);
+        let _seat = self.names.swap_remove(&prop.name);
+        if self.seats.is_sparse() {
+            self.close();
+        }
+    }
+
+    /// Closes the gaps, so that each place is found at once. It takes no memory.
+    pub fn close(&mut self)
+        ensures { self.new ≡ self.old }
+    {
+        if self.seats.has_gaps() {
+            self.seats.close();
+            number(&mut self.names, &self.seats);
+        }
+    }
+}
+
+// Has each name lead to its seat, where no seat is empty. It takes no memory.
+fn number(names: &mut IndexMap<u32, usize>, seats: &Seats)
+    requires full { length (seated seats.now) ≡ length seats.now }
+    requires distinct { HaveDistinctNames (seated seats.now) }
+    requires room { length seats.now ≤ index_map_len names.old + spare names.old }
+    ensures found { LeadToSeats names.new.entries seats.now }
+    ensures as_many { index_map_len names.new ≡ length seats.now }
+{
+    names.clear();
+    for seat in 0..seats.len() {
+        let Some(prop) = seats.prop(seat) else {
+            unreachable!();
+        };
+        let Ok(_replaced) = names.insert(prop.name, seat) else {
+            unreachable!();
+        };
     }
 }

@@ -66,3 +66,47 @@ fn a_removal_keeps_the_order_and_a_change_the_place(rt: HostRuntime) -> Result<(
     expect(&rt, &dict, &[(7, 70), (9, 91), (1, 10), (3, 31)]);
     Ok(())
 }
+
+// Takes the property of a name away where there is one, and puts one last where there is none, in both.
+fn change(rt: &impl Abort, dict: &mut Dict, list: &mut Vec<u32>, name: u32) -> Result<(), Fail> {
+    let Some(place) = dict.find(name) else {
+        insert(rt, dict, name, name);
+        list.push(name)?;
+        return Ok(());
+    };
+    assert!(rt; (place as usize) < list.len());
+    assert_eq!(rt; list.remove(place as usize), name);
+    dict.remove(place);
+    Ok(())
+}
+
+// Stops unless the properties have these names, in order.
+fn expect_names(rt: &impl Abort, dict: &Dict, list: &Vec<u32>) {
+    let len = dict.len();
+    assert!(rt; len as usize == list.len());
+    for i in 0..len {
+        let name = list[i as usize];
+        assert_eq!(rt; dict.prop(i), property(name, name), "at {i}");
+        assert_eq!(rt; dict.find(name), Some(i), "at {i}");
+    }
+}
+
+#[test]
+fn insertions_and_deletions_agree_with_a_plain_list(rt: HostRuntime) -> Result<(), Fail> {
+    let mut dict = Dict::new(rt.alloc());
+    let mut list = Vec::new(rt.alloc());
+    let mut draw: u32 = 1;
+    for step in 0..6000 {
+        draw = draw.wrapping_mul(1_664_525).wrapping_add(1_013_904_223);
+        let names = if step < 3000 { 700 } else { 90 };
+        change(&rt, &mut dict, &mut list, (draw >> 12) % names)?;
+        if step % 251 == 0 {
+            expect_names(&rt, &dict, &list);
+        }
+        if step % 1999 == 0 {
+            dict.close();
+            expect_names(&rt, &dict, &list);
+        }
+    }
+    Ok(())
+}

@@ -4,4 +4,6 @@
 #[cfg(test)]
 mod dictionaries;
 #[cfg(test)]
+mod indexes;
+#[cfg(test)]
 mod tables;
