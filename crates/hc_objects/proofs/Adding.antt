@@ -1,6 +1,6 @@
 -- A fast object that gets one property more: what its growth asks, and what becomes of the objects.
-use Rattle.std.proofs.Common.{◌≡◌, ◌≢◌, ℕ, zero, suc, ◌<◌, Bool, true, false, cond, eqb, eq-eqb, List, [], ◌∷◌, ◌++◌, Option, Some, None, length, set, refl, sym, ap, ◌∙◌, subst, arith}
-use Rattle.std.specs.Prelude.{IsSomeAnd, IsTrue, ◌↔◌, option_map}
+use Rattle.std.proofs.Common.{◌≡◌, ◌≢◌, ℕ, ◌<◌, Bool, true, false, List, [], ◌∷◌, ◌++◌, Option, Some, None, length, set, refl, sym, ap, ◌∙◌, subst, arith}
+use Rattle.std.specs.Prelude.{IsSomeAnd, IsTrue, ◌↔◌}
 use Rattle.hc_layout.specs.declared.capacity.TheConstants.{MAX_FAST}
 use Rattle.hc_layout.specs.declared.words.GateWord.{GateWord}
 use Rattle.hc_value.specs.declared.field.Detail.{Detail}
@@ -10,45 +10,32 @@ use Rattle.hc_heap.specs.Readings.{gate_in, map_in, root_in, detail_in}
 use Rattle.hc_heap.specs.Lawful.{IsFormOf, HoldsEntries}
 use Rattle.hc_heap.specs.Kept.{DetailsRise, UnusedSaysNothing}
 use Rattle.hc_heap.specs.States.{View}
-use Rattle.hc_descs.specs.Entries.{key_at, field_at, LacksName}
-use Rattle.hc_tree.specs.Tree.{gate_with, tagged_field}
+use Rattle.hc_descs.specs.Entries.{key_at, field_at, LacksName, detail_of, detail_at}
+use Rattle.hc_tree.specs.Tree.{gate_with}
 use Rattle.hc_tree.specs.Kept.{MapsAreKept, TreesStay}
 use Rattle.hc_tree.specs.Needs.{HasSpace}
-use Rattle.hc_tree.specs.Copying.{detail_of, detail_at}
 use Rattle.hc_table.specs.Attributes.{IsProper}
 use Rattle.hc_table.specs.World.{Object, object, props_at, place_of, with_list, with_added}
 use Rattle.hc_table.specs.Changes.{Added}
 use Rattle.hc_table.specs.Kept.{ChangesKeep}
-use Rattle.hc_objects.specs.Listed.{listed}
-use Rattle.hc_objects.specs.Meaning.{Dictionary, kept_of, prop_in, prop_of, slot_word, world}
+use Rattle.hc_slots.specs.Listed.{listed, length-listed, place-absent}
+use Rattle.hc_slots.specs.Meaning.{Dictionary, prop_in, prop_of, slot_word}
+use Rattle.hc_objects.specs.Meaning.{kept_of, world}
 use Rattle.hc_objects.specs.Came.{world_of}
 use Rattle.hc_objects.specs.State.{ObjectsState, IsObjects, tables_of}
 use Rattle.hc_objects.specs.Changes.{Stepped, key_of}
 use Rattle.hc_objects.specs.Filling.{IsMoved, MayGrowBy, with_growth}
 use Rattle.hc_objects.specs.Modes.{IsWithin, add_need}
-use Rattle.hc_objects.proofs.Listed.{length-listed}
 use Rattle.hc_objects.proofs.Operations.{grown-step}
+use Rattle.hc_objects.proofs.Rising.{form-between, held-between, not-wide}
+use Rattle.hc_value.specs.Prop.{kind_of}
+use Rattle.hc_value.specs.declared.field.Rep.TheVariants.{Tagged}
 use Rattle.hc_objects.proofs.Shown.{within}
 use Rattle.hc_objects.proofs.Needing.{space-of, may-of, within-of, within-same}
-use Rattle.hc_objects.proofs.Sound.{some-is, protos-stay}
+use Rattle.hc_slots.specs.Cases.{some-is, some-and}
+use Rattle.hc_objects.proofs.Sound.{protos-stay}
 use Rattle.hc_objects.proofs.Stepping.{stepped-world, stepped-sound, set-same}
 use Rattle.hc_objects.proofs.Writing.{has-map, is-fast, props-are, count-is}
-use Rattle.hc_objects.proofs.Rising.{some-and}
-
--- a listed property of a name that is absent has another name
-place-rest : (b : Bool) (rest : Option ℕ) → cond b (Some 0) (option_map suc rest) ≡ None → rest ≡ None
-place-rest true rest e = let n : ⊥ = cc in absurd n
-place-rest false None e = refl
-place-rest false (Some x) e = let n : ⊥ = cc in absurd n
-
-place-first : (b : Bool) (rest : Option ℕ) → cond b (Some 0) (option_map suc rest) ≡ None → b ≡ true → ⊥
-place-first true rest e is = let n : ⊥ = cc in n
-place-first false rest e is = let n : ⊥ = cc in n
-
-pub place-absent : (f : ℕ → Prop) (n k name : ℕ) → k < n → place_of (listed f n) name ≡ None → (f k).name ≢ name
-place-absent f zero k name lt e = absurd (omega arith)
-place-absent f (suc n) zero name lt e = λ is. place-first (eqb (f 0).name name) (place_of (listed (λ i. f (suc i)) n) name) e (eq-eqb (f 0).name name is)
-place-absent f (suc n) (suc k) name lt e = place-absent (λ i. f (suc i)) n k name (omega arith) (place-rest (eqb (f 0).name name) (place_of (listed (λ i. f (suc i)) n) name) e)
 
 -- what a growth asks of an object
 pub record IsReady (v : View) (o m n name : ℕ) : Type 0 where
@@ -92,7 +79,8 @@ module _ (v : View) (kept : List (Option Dictionary)) (of_null : Option ℕ) (h 
       ∙ sym (ap (λ (ps : List Prop). place_of ps name) (props-are v kept of_null h o there fast)) ∙ absent in
       let key = some-and (key_at v.trail so.map k) (λ key. IsSomeAnd (field_at v.trail so.map k) (λ f. IsSomeAnd (detail_in v.trail f) (λ d. IsFormOf key.kind d.rep (slot_word v.trail o k)))) (so.fast.holds.slots k lt) in
       let field = some-and (field_at v.trail so.map k) (λ f. IsSomeAnd (detail_in v.trail f) (λ d. IsFormOf key.0.kind d.rep (slot_word v.trail o k))) key.1.1 in
-      let admits : detail_at v.trail so.map k ≡ Some tagged_field = ap (detail_of v.trail) field.1.0 ∙ (let d = some-and (detail_in v.trail field.0) (λ d. IsFormOf key.0.kind d.rep (slot_word v.trail o k)) field.1.1 in d.1.0 ∙ ap (λ (x : Detail). Some x) (h.tree.plain field.0 d.0 d.1.0)) in
+      let d = some-and (detail_in v.trail field.0) (λ d. IsFormOf key.0.kind d.rep (slot_word v.trail o k)) field.1.1 in
+      let admits : detail_at v.trail so.map k ≡ Some d.0 = ap (detail_of v.trail) field.1.0 ∙ d.1.0 in
       let named : (prop_in v.trail o so.map k).name ≡ key.0.name =
       ap (λ (x : Option Key). (prop_of x (detail_at v.trail so.map k) (slot_word v.trail o k)).name) key.1.0
       ∙ ap (λ (d : Option Detail). (prop_of (Some key.0) d (slot_word v.trail o k)).name) admits in
@@ -137,8 +125,10 @@ module _ (v : View) (kept : List (Option Dictionary)) (of_null : Option ℕ) (h 
     step =
         let so = has-map v kept of_null h o there fast in
         subst (λ (y : Object). Stepped v x None o (with_list y (y.props ++ p ∷ []))) (sym (is-fast v kept of_null h o there fast))
-        (grown-step maps details trees unused v kept of_null h o so x moved.child (key_of p) tagged_field p.held moved.changed moved.opens
-        (h.tree.maps so.map so.gate so.fast.is_open).unlocked moved.grown moved.moved (moved.shared ∙ sym (moved.proto ∙ shared)) moved.room moved.words moved.form moved.holds moved.store moved.owns alone)
+        (grown-step maps details trees unused v kept of_null h o so x moved.child (key_of p) moved.detail p.held moved.changed moved.opens
+        (h.tree.maps so.map so.gate so.fast.is_open).unlocked moved.grown moved.moved (moved.shared ∙ sym (moved.proto ∙ shared)) moved.room moved.words
+        (form-between (kind_of p.held) Tagged moved.detail.rep (slot_word x.trail o so.gate.entries) not-wide moved.narrow moved.form)
+        (held-between (kind_of p.held) moved.detail.rep Tagged (slot_word x.trail o so.gate.entries) moved.narrow not-wide ∙ moved.holds) moved.store moved.owns alone)
 
     same-kept : set kept o None ≡ kept
     same-kept = set-same kept o None there fast

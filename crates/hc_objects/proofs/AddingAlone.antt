@@ -17,13 +17,18 @@ use Rattle.hc_table.specs.Kept.{ChangesKeep}
 use Rattle.hc_table.specs.World.{Object, object, place_of, props_at, with_added, with_list}
 use Rattle.hc_objects.specs.Came.{world_of}
 use Rattle.hc_objects.specs.Changes.{Stepped, key_of}
-use Rattle.hc_objects.specs.Meaning.{Dictionary, kept_of, world}
+use Rattle.hc_slots.specs.Meaning.{Dictionary, slot_word}
+use Rattle.hc_objects.specs.Meaning.{kept_of, world}
 use Rattle.hc_objects.specs.Privates.{IsGrownAlone}
-use Rattle.hc_objects.specs.State.{HasMap, IsObjects, ObjectsState, tables_of}
+use Rattle.hc_slots.specs.Fast.{HasMap}
+use Rattle.hc_objects.specs.State.{IsObjects, ObjectsState, tables_of}
 use Rattle.hc_objects.proofs.Adding.{few-entries, gate-is, lacks-name, map-is}
 use Rattle.hc_objects.proofs.Alike.{new-alone}
 use Rattle.hc_objects.proofs.Linking.{call-fast, call-gate, call-private, call-there}
 use Rattle.hc_objects.proofs.Operations.{grown-step}
+use Rattle.hc_objects.proofs.Rising.{form-between, held-between, not-wide}
+use Rattle.hc_value.specs.Prop.{kind_of}
+use Rattle.hc_value.specs.declared.field.Rep.TheVariants.{Tagged}
 use Rattle.hc_objects.proofs.Stepping.{set-same, stepped-sound, stepped-world}
 use Rattle.hc_objects.proofs.Writing.{has-map, is-fast}
 
@@ -51,8 +56,10 @@ module _ (v : View) (kept : List (Option Dictionary)) (of_null : Option ℕ) (h 
     step =
         let own : IsTrue (root_in x.trail o).is_proto = subst (λ (r : RootWord). IsTrue r.is_proto) (sym (grown.roots o)) private in
         subst (λ (y : Object). Stepped v x None o (with_list y (y.props ++ p ∷ []))) (sym (is-fast v kept of_null h o there fast))
-        (grown-step maps details trees unused v kept of_null h o so x v.used.maps (key_of p) tagged_field p.held grown.changed grown.opens
-        (h.tree.maps so.map so.gate so.fast.is_open).unlocked grown.grown grown.moved (grown.private ∙ sym own) grown.room grown.words grown.form grown.holds grown.store grown.owns
+        (grown-step maps details trees unused v kept of_null h o so x v.used.maps (key_of p) grown.detail p.held grown.changed grown.opens
+        (h.tree.maps so.map so.gate so.fast.is_open).unlocked grown.grown grown.moved (grown.private ∙ sym own) grown.room grown.words
+        (form-between (kind_of p.held) Tagged grown.detail.rep (slot_word x.trail o so.gate.entries) not-wide grown.narrow grown.form)
+        (held-between (kind_of p.held) grown.detail.rep Tagged (slot_word x.trail o so.gate.entries) grown.narrow not-wide ∙ grown.holds) grown.store grown.owns
         (new-alone maps details unused v kept of_null h o x grown.moved))
 
     same-kept : set kept o None ≡ kept

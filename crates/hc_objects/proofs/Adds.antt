@@ -12,7 +12,8 @@ use Rattle.hc_tree.specs.Needs.{HasSpace}
 use Rattle.hc_table.specs.Changes.{Moved, Added}
 use Rattle.hc_table.specs.World.{props_at}
 use Rattle.hc_objects.specs.Changes.{KeptBut}
-use Rattle.hc_objects.specs.Meaning.{Dictionary, cause_in, kept_of}
+use Rattle.hc_slots.specs.Meaning.{Dictionary}
+use Rattle.hc_objects.specs.Meaning.{cause_in, kept_of}
 use Rattle.hc_objects.specs.Rest.{Marks}
 use Rattle.hc_objects.specs.State.{ObjectsState, IsObjects}
 use Rattle.hc_objects.specs.Modes.{Becomes, StaysFast, IsOne, IsWithin, add_need, if_many}

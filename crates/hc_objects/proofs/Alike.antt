@@ -11,21 +11,22 @@ use Rattle.hc_heap.specs.Readings.{detail_in, gate_in, map_in, root_in, store_in
 use Rattle.hc_heap.specs.Lawful.{HoldsEntry, HoldsEntries, IsFormOf}
 use Rattle.hc_heap.specs.Kept.{DetailsRise, UnusedSaysNothing}
 use Rattle.hc_heap.specs.States.{View}
-use Rattle.hc_descs.specs.Entries.{count_of, entries_in, field_at, key_at}
+use Rattle.hc_descs.specs.Entries.{count_of, entries_in, field_at, key_at, detail_at, detail_of}
 use Rattle.hc_tree.specs.Tree.{gate_with}
 use Rattle.hc_tree.specs.Kept.{MapsAreKept}
-use Rattle.hc_tree.specs.Copying.{IsPrivateCopy, detail_at, detail_of}
+use Rattle.hc_tree.specs.Copying.{IsPrivateCopy}
 use Rattle.hc_table.specs.Changes.{with_link}
 use Rattle.hc_table.specs.World.{Object}
-use Rattle.hc_objects.specs.Listed.{listed}
-use Rattle.hc_objects.specs.Meaning.{Dictionary, fast_object, fast_props, is_extensible, object_shown, prop_in, prop_of, proto_of, slot_word}
-use Rattle.hc_objects.specs.State.{AreHandedOut, HasMap, IsFast, IsIn, IsObjects}
-use Rattle.hc_objects.specs.Changes.{Changed, OpensNoRoot, SlotsStay, Stepped}
+use Rattle.hc_slots.specs.Listed.{listed, listed-same}
+use Rattle.hc_slots.specs.Meaning.{Dictionary, fast_object, fast_props, is_extensible, object_shown, prop_in, prop_of, proto_of, slot_word}
+use Rattle.hc_slots.specs.Slots.{AreHandedOut, IsIn, SlotsStay}
+use Rattle.hc_slots.specs.Fast.{HasMap, IsFast}
+use Rattle.hc_objects.specs.State.{IsObjects}
+use Rattle.hc_objects.specs.Changes.{Changed, OpensNoRoot, Stepped}
 use Rattle.hc_objects.specs.Privates.{IsAlike}
 use Rattle.hc_objects.proofs.Holding.{holds-by}
-use Rattle.hc_objects.proofs.Listed.{listed-same}
 use Rattle.hc_objects.proofs.Owning.{nobody-has}
-use Rattle.hc_objects.proofs.Rising.{some-and}
+use Rattle.hc_slots.specs.Cases.{some-and}
 use Rattle.hc_objects.proofs.Sound.{is-later, still-out}
 use Rattle.hc_objects.proofs.Staying.{IsLater, holds-still, prop-stays}
 

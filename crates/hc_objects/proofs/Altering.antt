@@ -12,15 +12,15 @@ use Rattle.hc_heap.specs.States.{HeapState}
 use Rattle.hc_table.specs.Changes.{Did, Moved, Reconfigured as Put, kind_at, name_at, with_property}
 use Rattle.hc_table.specs.World.{World, object, props_at, with_list, with_written, holding, held_at}
 use Rattle.hc_objects.specs.Changes.{key_of}
-use Rattle.hc_objects.specs.Meaning.{Dictionary}
+use Rattle.hc_slots.specs.Meaning.{Dictionary}
 use Rattle.hc_objects.specs.Modes.{AllStay, IsOne, IsReconfigured, Modes, need_of}
 use Rattle.hc_objects.specs.State.{ObjectsState}
 use Rattle.hc_objects.specs.Came.{IsStill, Steps, Made, MarksOf, world_of}
 use Rattle.hc_objects.proofs.Composing.{all-stay, steps-on, still-steps}
 use Rattle.hc_objects.proofs.Left.{set-object}
-use Rattle.hc_objects.proofs.Marking.{words-marks}
+use Rattle.hc_objects.proofs.Marking.{IsOfOne, words-marks}
 use Rattle.hc_objects.proofs.Needing.{within-same}
-use Rattle.hc_objects.proofs.Slowed.{held-set}
+use Rattle.hc_dict.specs.Held.{held-set}
 
 -- whether a dictionary is kept
 
@@ -79,13 +79,13 @@ reconfigured-by {P} a b o i p differs same other = record { same = same; other =
 
 module _ {P : Type 0} (went : P → List Access → List Access → P → Type 0) where
   -- the words stay
-  pub slow-made : (a b : ObjectsState P) (did : Did) → Steps went a did b → b.heap ≡ a.heap → Modes a did b → Made went a did b
-  slow-made a b did steps heap modes = record {
+  pub slow-made : (a b : ObjectsState P) (did : Did) → IsOfOne did → Steps went a did b → b.heap ≡ a.heap → Modes a did b → Made went a did b
+  slow-made a b did one steps heap modes = record {
     steps = steps;
     modes = modes;
     needs = within-same (need_of a did) a.heap.view.used b.heap.view.used (ap (λ (h : HeapState P). h.view.used) heap);
     protos = λ p. ap (λ (h : HeapState P). (root_in h.view.trail p).is_proto) heap;
-    marks = words-marks a.heap.view.trail b.heap.view.trail did (ap (λ (h : HeapState P). h.view.trail) heap);
+    marks = words-marks a.heap.view.trail b.heap.view.trail did one (ap (λ (h : HeapState P). h.view.trail) heap);
   }
 
   -- nothing is handed out
@@ -122,5 +122,5 @@ module _ {P : Type 0} (went : P → List Access → List Access → P → Type 0
         };
         needs = within-same (need_of a (Put o i p)) a.heap.view.used b.heap.view.used (ap (λ (s : ObjectsState P). s.heap.view.used) still.is);
         protos = λ q. ap (λ (s : ObjectsState P). (root_in s.heap.view.trail q).is_proto) still.is;
-        marks = words-marks a.heap.view.trail b.heap.view.trail (Put o i p) (ap (λ (s : ObjectsState P). s.heap.view.trail) still.is);
+        marks = words-marks a.heap.view.trail b.heap.view.trail (Put o i p) tt (ap (λ (s : ObjectsState P). s.heap.view.trail) still.is);
       }

@@ -12,10 +12,11 @@ use Rattle.hc_tree.specs.Copying.{copy_need}
 use Rattle.hc_tree.specs.Growth.{IsUnmoved}
 use Rattle.hc_tree.specs.Needs.{HasSpace, no_need, with_need}
 use Rattle.hc_objects.specs.Came.{IsStill}
-use Rattle.hc_objects.specs.Meaning.{Dictionary, cause_in, kept_of}
+use Rattle.hc_slots.specs.Meaning.{Dictionary}
+use Rattle.hc_objects.specs.Meaning.{cause_in, kept_of}
 use Rattle.hc_objects.specs.Modes.{Becomes, if_fast, need_by, proto_need}
 use Rattle.hc_objects.specs.State.{ObjectsState}
-use Rattle.hc_objects.proofs.Rising.{some-of}
+use Rattle.hc_slots.specs.Cases.{some-of}
 
 -- Needs
 

@@ -1,64 +1,83 @@
 -- The child of an object's map is there, before the object comes to it.
-use Rattle.std.proofs.Common.{◌≡◌, ℕ, ◌+◌, ◌<◌, ◌≤◌, false, List, [], ◌∷◌, Option, Some, None, refl, sym, ap, ◌∙◌, subst, arith}
+use Rattle.std.proofs.Common.{◌≡◌, ℕ, ◌+◌, ◌<◌, ◌≤◌, Bool, true, false, cond, List, [], ◌∷◌, Option, Some, None, refl, sym, ap, ◌∙◌, subst, arith}
 use Rattle.std.specs.Prelude.{IsSomeAnd, IsTrue}
 use Rattle.hc_layout.specs.declared.shape.Shape.{Shape}
 use Rattle.hc_layout.specs.declared.shape.Region.TheVariants.{Slots}
 use Rattle.hc_layout.specs.declared.words.GateWord.{GateWord}
-use Rattle.hc_layout.specs.declared.words.RootWord.{RootWord}
 use Rattle.hc_layout.specs.declared.words.StoreWord.{StoreWord}
 use Rattle.hc_value.specs.declared.key.Key.{Key}
 use Rattle.hc_value.specs.declared.prop.Prop.{Prop}
-use Rattle.hc_heap.specs.Writes.{Write, Trail, ObjectMap, Root, Store, Slot}
-use Rattle.hc_heap.specs.Readings.{gate_in, parent_in, bits_in, map_in, root_in, store_in, slot_in}
+use Rattle.hc_heap.specs.Writes.{Trail, FieldDetail}
+use Rattle.hc_heap.specs.Readings.{gate_in, parent_in, bits_in, detail_in, map_in, owner_in, root_in, store_in, slot_in}
 use Rattle.hc_heap.specs.Lawful.{Lawful, HoldsEntries, word_from}
 use Rattle.hc_heap.specs.Kept.{Adds, DetailsRise, UnusedSaysNothing}
-use Rattle.hc_heap.specs.Frames.{adds-on, adds-wider, same-after, goes-on-of}
+use Rattle.hc_heap.specs.Frames.{adds-none, adds-one, adds-on, adds-wider, same-after, goes-on-of}
 use Rattle.hc_heap.specs.States.{View, IsHeap, HasRoom}
 use Rattle.hc_links.specs.Chains.{links_in, newest_of}
 use Rattle.hc_links.specs.Laws.{LinkedAreUnstable}
-use Rattle.hc_tree.specs.Tree.{IsTree, IsChildFor, gate_with, tagged_field}
+use Rattle.hc_descs.specs.Entries.{count_of, detail_at, field_at}
+use Rattle.hc_fields.specs.Fields.{raised, raised_from}
+use Rattle.hc_value.specs.Field.{is_detail_within, joined_detail}
+use Rattle.hc_value.specs.declared.field.Detail.{Detail}
+use Rattle.hc_tree.specs.Details.{ChildGets, NoMap, Reshapes, child_detail, joined_with}
+use Rattle.hc_tree.specs.Frames.{reshapes-grow}
+use Rattle.hc_tree.specs.Tree.{IsTree, IsChildFor, gate_with}
+use Rattle.hc_objects.specs.Linking.{GrowsTree}
 use Rattle.hc_tree.specs.Kept.{MapsAreKept}
 use Rattle.hc_tree.specs.Needs.{with_need}
 use Rattle.hc_tree.specs.Growth.{MakesMap, EndsWith, live_of, live_child, child_need, marked}
-use Rattle.hc_objects.specs.Meaning.{slot_word}
-use Rattle.hc_objects.specs.State.{IsFast, IsIn, Owns, AreHandedOut}
+use Rattle.hc_slots.specs.Meaning.{slot_word}
+use Rattle.hc_slots.specs.Fast.{IsFast}
+use Rattle.hc_slots.specs.Slots.{IsIn, Owns, AreHandedOut, slots_need}
 use Rattle.hc_objects.specs.Rest.{MarksAt}
 use Rattle.hc_objects.proofs.Marking.{makes-at, marked-already}
-use Rattle.hc_objects.specs.Changes.{WordsStay, Changed, OpensNoRoot, IsGrown, key_of}
-use Rattle.hc_objects.specs.Filling.{IsMoved, slots_need, with_growth, with_slots}
-use Rattle.hc_objects.proofs.Rising.{some-of, not-both}
-use Rattle.hc_objects.proofs.Sound.{some-is, is-later}
+use Rattle.hc_objects.specs.Changes.{WordsStay, Changed, OpensNoRoot, key_of}
+use Rattle.hc_objects.specs.Admitting.{IsGrownBy}
+use Rattle.hc_objects.specs.Filling.{IsMoved, with_growth, with_slots}
+use Rattle.hc_slots.specs.Cases.{some-and, some-of, not-both, some-is}
+use Rattle.hc_objects.proofs.Sound.{is-later}
 use Rattle.hc_objects.proofs.Staying.{IsLater, later, fits-still}
-use Rattle.hc_objects.proofs.Steps.{opens-none, opens-one, child-no-root, grown-child}
-use Rattle.hc_objects.proofs.Touching.{map-made, changed-on}
+use Rattle.hc_objects.proofs.Found.{grows-touches, map-grown, proto-grown, store-grown, slot-grown}
+use Rattle.hc_objects.proofs.Owning.{open-used}
+use Rattle.hc_objects.proofs.Steps.{child-no-root, grown-child, reshapes-gate, reshapes-none, reshapes-one}
+use Rattle.hc_objects.proofs.Touching.{changed-on}
 
 -- the live child of a map for a key was found or made
-pub record IsChilded (v w : View) (m n c : ℕ) (key : Key) : Type 0 where
-  pub writes : Adds (MakesMap v.used (Some m)) v.trail w.trail
+pub record IsChilded (v w : View) (m n c : ℕ) (key : Key) (d : Detail) : Type 0 where
+  pub writes : Adds (Reshapes v.used NoMap (ChildGets v.trail (live_child v.trail m key) n d v.used.fields)) v.trail w.trail
   pub shape : w.shape ≡ v.shape
   pub used : w.used ≡ with_need (child_need (live_child v.trail m key) n) v.used
   pub number : live_child v.trail m key ≡ None → c ≡ v.used.maps
+  pub found : (x : ℕ) → live_child v.trail m key ≡ Some x → c ≡ x
   pub live : live_child w.trail m key ≡ Some c
   pub child : IsSomeAnd (gate_in w.trail m) (λ g. IsChildFor w.trail m g c key)
-  pub ends : EndsWith w.trail c n key tagged_field
+  pub ends : EndsWith w.trail c n key (child_detail v.trail (live_child v.trail m key) n d)
   pub tree : IsTree w.trail
   pub heap : IsHeap w
 
-pub map-by : (used : Shape) (q : Option ℕ) (o : ℕ) (t : Trail) (w : Write) → MakesMap used q t w → map_in (w ∷ t) o ≡ map_in t o
-map-by used q o t (ObjectMap i h) e = absurd e
-map-by used q o t _ e = refl
+-- what the call says
+pub childed : (v w : View) (m c : ℕ) (key : Key) (d : Detail)
+    → Adds (Reshapes v.used NoMap (ChildGets v.trail (live_child v.trail m key) (count_of v.trail m) d v.used.fields)) v.trail w.trail
+    → w.shape ≡ v.shape → w.used ≡ with_need (child_need (live_child v.trail m key) (count_of v.trail m)) v.used
+    → (live_child v.trail m key ≡ None → c ≡ v.used.maps) → ((x : ℕ) → live_child v.trail m key ≡ Some x → c ≡ x) → live_child w.trail m key ≡ Some c
+    → IsSomeAnd (gate_in w.trail m) (λ g. IsChildFor w.trail m g c key) → EndsWith w.trail c (count_of v.trail m) key (child_detail v.trail (live_child v.trail m key) (count_of v.trail m) d)
+    → IsTree w.trail → IsHeap w → IsChilded v w m (count_of v.trail m) c key d
+childed v w m c key d writes shape used number found live child ends tree heap = record {
+  writes = writes;
+  shape = shape;
+  used = used;
+  number = number;
+  found = found;
+  live = live;
+  child = child;
+  ends = ends;
+  tree = tree;
+  heap = heap;
+}
 
-pub store-by : (used : Shape) (q : Option ℕ) (o : ℕ) (t : Trail) (w : Write) → MakesMap used q t w → store_in (w ∷ t) o ≡ store_in t o
-store-by used q o t (Store i h) e = absurd e
-store-by used q o t _ e = refl
-
-pub slot-by : (used : Shape) (q : Option ℕ) (s : ℕ) (t : Trail) (w : Write) → MakesMap used q t w → slot_in (w ∷ t) s ≡ slot_in t s
-slot-by used q s t (Slot i h) e = absurd e
-slot-by used q s t _ e = refl
-
-pub root-by : (used : Shape) (q : Option ℕ) (o : ℕ) (t : Trail) (w : Write) → MakesMap used q t w → root_in (w ∷ t) o ≡ root_in t o
-root-by used q o t (Root i h) e = absurd e
-root-by used q o t _ e = refl
+-- they are writes of the tree
+pub child-grows : (v w : View) (m n c : ℕ) (key : Key) (d : Detail) → IsChilded v w m n c key d → Adds GrowsTree v.trail w.trail
+child-grows v w m n c key d it = adds-wider (reshapes-grow v.used (ChildGets v.trail (live_child v.trail m key) n d v.used.fields)) it.writes
 
 slots-by : (l : Option ℕ) (n : ℕ) (s : Shape) → (with_need (child_need l n) s).slots ≡ s.slots
 slots-by (Some c) n s = omega arith
@@ -71,35 +90,39 @@ linked-by linked s t m c key lawful live [] e =
     absurd (not-both (live_child t m key) c none live)
 linked-by linked s t m c key lawful live (l ∷ ls) e = linked s t m l ls lawful e
 
--- whether the child was there or is made, the map is unstable first
-pub child-begins : LinkedAreUnstable → (v w : View) (m : ℕ) (key : Key) → IsHeap v → Adds (MakesMap v.used (Some m)) v.trail w.trail → (live_child v.trail m key ≡ None → Adds (MakesMap v.used (Some m)) (marked v.trail m) w.trail) → Adds (MarksAt m) (marked v.trail m) w.trail
-child-begins linked v w m key heap writes made = by (live_child v.trail m key) refl
+-- a field that is asked to admit a detail marks no map
+raised-marks : (t : Trail) (f m : ℕ) (d : Detail) → Adds (MarksAt m) t (raised t f d)
+raised-marks t f m d = by (detail_in t f)
   where
-    its : (t : Trail) → Adds (MakesMap v.used (Some m)) t w.trail → Adds (MarksAt m) t w.trail
-    its t adds = adds-wider (makes-at v.used (Some m) m (λ x is. some-is x m (sym is))) adds
+    within : (e : Detail) (b : Bool) → Adds (MarksAt m) t (cond b t (FieldDetail f (joined_detail e d) ∷ t))
+    within e true = adds-none t
+    within e false = adds-one t (FieldDetail f (joined_detail e d)) tt
 
-    by : (l : Option ℕ) → live_child v.trail m key ≡ l → Adds (MarksAt m) (marked v.trail m) w.trail
-    by None e = its (marked v.trail m) (made e)
-    by (Some c) e = subst (λ (t : Trail). Adds (MarksAt m) t w.trail) (sym (marked-already v.trail m (linked-by linked v.shape v.trail m c key heap.lawful e (links_in v.trail m) refl))) (its v.trail writes)
+    by : (was : Option Detail) → Adds (MarksAt m) t (raised_from was t f d)
+    by None = adds-none t
+    by (Some e) = within e (is_detail_within d e)
 
-module _ (maps : MapsAreKept) (details : DetailsRise) (unused : UnusedSaysNothing) (linked : LinkedAreUnstable) (v w : View) (o m n c : ℕ) (p : Prop) (heap : IsHeap v) (it : IsChilded v w m n c (key_of p)) (is_open : gate_in v.trail m ≡ Some (gate_with n false)) where
+module _ (maps : MapsAreKept) (details : DetailsRise) (unused : UnusedSaysNothing) (linked : LinkedAreUnstable) (v w : View) (o m n c : ℕ) (p : Prop) (d : Detail) (heap : IsHeap v) (it : IsChilded v w m n c (key_of p) d) (is_open : gate_in v.trail m ≡ Some (gate_with n false)) where
   lawful-then : Lawful v.shape w.trail
   lawful-then = subst (λ (s : Shape). Lawful s w.trail) it.shape it.heap.lawful
 
+  grows : Adds GrowsTree v.trail w.trail
+  grows = child-grows v w m n c (key_of p) d it
+
   after : IsLater v.trail w.trail
-  after = later maps details v.shape v.trail w.trail heap.lawful (goes-on-of v.shape it.writes lawful-then)
+  after = later maps details v.shape v.trail w.trail heap.lawful (goes-on-of v.shape grows lawful-then)
 
   pub map-same : map_in w.trail o ≡ map_in v.trail o
-  map-same = same-after (λ (t : Trail). map_in t o) (map-by v.used (Some m) o) it.writes
+  map-same = same-after (λ (t : Trail). map_in t o) (map-grown o) grows
 
   pub store-same : store_in w.trail o ≡ store_in v.trail o
-  store-same = same-after (λ (t : Trail). store_in t o) (store-by v.used (Some m) o) it.writes
+  store-same = same-after (λ (t : Trail). store_in t o) (store-grown o) grows
 
   slot-same : (s : ℕ) → slot_in w.trail s ≡ slot_in v.trail s
-  slot-same s = same-after (λ (t : Trail). slot_in t s) (slot-by v.used (Some m) s) it.writes
+  slot-same s = same-after (λ (t : Trail). slot_in t s) (slot-grown s) grows
 
-  pub root-same : root_in w.trail o ≡ root_in v.trail o
-  root-same = same-after (λ (t : Trail). root_in t o) (root-by v.used (Some m) o) it.writes
+  pub proto-same : (root_in w.trail o).is_proto ≡ (root_in v.trail o).is_proto
+  proto-same = same-after (λ (t : Trail). (root_in t o).is_proto) (proto-grown o) grows
 
   pub slots-same : w.used.slots ≡ v.used.slots
   slots-same = ap (λ (s : Shape). s.slots) it.used ∙ slots-by (live_child v.trail m (key_of p)) n v.used
@@ -120,20 +143,51 @@ module _ (maps : MapsAreKept) (details : DetailsRise) (unused : UnusedSaysNothin
   pub unstable-then : IsTrue (bits_in w.trail m).unstable
   unstable-then = linked-by linked w.shape w.trail m c (key_of p) it.heap.lawful it.live (links_in w.trail m) refl
 
-  pub holds-then : HoldsEntries v.trail o m (gate_with n false) → (root_in v.trail o).is_proto ≡ false → HoldsEntries w.trail o m (gate_with n false)
-  holds-then holds shared =
-      let stay : WordsStay v.trail w.trail o = record { map = map-same; store = store-same; slots = λ s owns. slot-same s; proto = ap (λ (r : RootWord). r.is_proto) root-same } in
-      let fast : IsFast v.trail o m (gate_with n false) = record { is_open = is_open; holds = holds; private = sym shared } in
-      (fits-still v.trail w.trail after o m (gate_with n false) stay fast).holds
-
   its-child : IsChildFor w.trail m (gate_with n false) c (key_of p)
   its-child = subst (λ (g : Option GateWord). IsSomeAnd g (λ y. IsChildFor w.trail m y c (key_of p))) open-then it.child
 
   pub child-then : gate_in w.trail c ≡ Some (gate_with (n + 1) false)
   child-then = its-child.gate
 
-  pub grown-then : IsGrown w.trail m c n (key_of p) tagged_field
-  grown-then = grown-child w.trail m c (gate_with n false) (key_of p) tagged_field open-then it.child it.ends
+  -- the last field of a child that was there
+  found-field : (x : ℕ) → live_child v.trail m (key_of p) ≡ Some x → (f : ℕ) × (field_at v.trail x n ≡ Some f)
+  found-field x e =
+      let field = some-and (field_at w.trail c n) (λ f. (owner_in w.trail f ≡ Some c) × (detail_in w.trail f ≡ Some (child_detail v.trail (live_child v.trail m (key_of p)) n d))) it.ends.field in
+      let used : w.used.maps ≡ v.used.maps + 0 = ap (λ (s : Shape). s.maps) it.used ∙ ap (λ (l : Option ℕ). (with_need (child_need l n) v.used).maps) e in
+      let there : c < w.used.maps = open-used unused w it.heap c (gate_with (n + 1) false) child-then in
+      let gate : gate_in v.trail c ≡ Some (gate_with (n + 1) false) =
+      sym (reshapes-gate unused v w (ChildGets v.trail (live_child v.trail m (key_of p)) n d v.used.fields) it.heap it.writes c (omega (arith, there, used))) ∙ child-then in
+      let entry = after.maps.entry c n (gate_with (n + 1) false) gate (omega arith) in
+      (field.0, subst (λ (y : ℕ). field_at v.trail y n ≡ Some field.0) (it.found x e) (sym entry.field ∙ field.1.0))
+
+  -- whether the child was there or is made, the map is unstable first
+  pub child-begins : (live_child v.trail m (key_of p) ≡ None → Adds (MakesMap v.used (Some m)) (marked v.trail m) w.trail)
+      → ((x f : ℕ) → live_child v.trail m (key_of p) ≡ Some x → field_at v.trail x n ≡ Some f → w ≡ record v { trail = raised v.trail f d }) → Adds (MarksAt m) (marked v.trail m) w.trail
+  child-begins made raised_to = by (live_child v.trail m (key_of p)) refl
+    where
+      by : (l : Option ℕ) → live_child v.trail m (key_of p) ≡ l → Adds (MarksAt m) (marked v.trail m) w.trail
+      by None e = adds-wider (makes-at v.used (Some m) m (λ x is. some-is x m (sym is))) (made e)
+      by (Some x) e =
+          let field = found-field x e in
+          let same : w.trail ≡ raised v.trail field.0 d = ap (λ (y : View). y.trail) (raised_to x field.0 e field.1) in
+          subst (λ (t : Trail). Adds (MarksAt m) t w.trail) (sym (marked-already v.trail m (linked-by linked v.shape v.trail m x (key_of p) heap.lawful e (links_in v.trail m) refl)))
+          (subst (λ (t : Trail). Adds (MarksAt m) v.trail t) (sym same) (raised-marks v.trail field.0 m d))
+
+  pub holds-then : HoldsEntries v.trail o m (gate_with n false) → (root_in v.trail o).is_proto ≡ false → HoldsEntries w.trail o m (gate_with n false)
+  holds-then holds shared =
+      let stay : WordsStay v.trail w.trail o = record { map = map-same; store = store-same; slots = λ s owns. slot-same s; proto = proto-same } in
+      let fast : IsFast v.trail o m (gate_with n false) = record { is_open = is_open; holds = holds; private = sym shared } in
+      (fits-still v.trail w.trail after o m (gate_with n false) stay fast).holds
+
+  pub grown-then : IsGrownBy w.trail m c n p
+  grown-then =
+      let e = child_detail v.trail (live_child v.trail m (key_of p)) n d in
+      let field = some-and (field_at w.trail c n) (λ f. (owner_in w.trail f ≡ Some c) × (detail_in w.trail f ≡ Some e)) it.ends.field in
+      record {
+        detail = e;
+        narrow = it.tree.narrow field.0 e field.1.1.1;
+        grown = grown-child w.trail m c (gate_with n false) (key_of p) e open-then it.child it.ends;
+      }
 
   pub out-then : AreHandedOut v.used.slots (store_in v.trail o) → AreHandedOut w.used.slots (store_in w.trail o)
   out-then out = subst (λ (s : ℕ). AreHandedOut s (store_in w.trail o)) (sym slots-same) (subst (λ (x : StoreWord). AreHandedOut v.used.slots x) (sym store-same) out)
@@ -147,18 +201,18 @@ module _ (maps : MapsAreKept) (details : DetailsRise) (unused : UnusedSaysNothin
   opens-by : (l : Option ℕ) → live_child v.trail m (key_of p) ≡ l → OpensNoRoot v.trail w.trail
   opens-by (Some x) e =
       let used : w.used.maps ≡ v.used.maps + 0 = ap (λ (s : Shape). s.maps) it.used ∙ ap (λ (l : Option ℕ). (with_need (child_need l n) v.used).maps) e in
-      opens-none unused v w (Some m) it.heap it.writes (omega (arith, used))
+      reshapes-none unused v w (ChildGets v.trail (live_child v.trail m (key_of p)) n d v.used.fields) it.heap it.writes (omega (arith, used))
   opens-by None e =
       let used : w.used.maps ≡ v.used.maps + 1 = ap (λ (s : Shape). s.maps) it.used ∙ ap (λ (l : Option ℕ). (with_need (child_need l n) v.used).maps) e in
       let parent : parent_in w.trail v.used.maps ≡ Some (Some m) = subst (λ (x : ℕ). parent_in w.trail x ≡ Some (Some m)) (it.number e) its-child.parent in
-      opens-one unused v w (Some m) it.heap it.writes used (λ g gate shared top. child-no-root w.trail m v.used.maps parent top)
+      reshapes-one unused v w (ChildGets v.trail (live_child v.trail m (key_of p)) n d v.used.fields) it.heap it.writes used (λ g gate shared top. child-no-root w.trail m v.used.maps parent top)
 
   opens-here : OpensNoRoot v.trail w.trail
   opens-here = opens-by (live_child v.trail m (key_of p)) refl
 
   changed-here : Changed v w o
   changed-here = record {
-    writes = map-made v o v.used (Some m) v.trail w.trail it.writes;
+    writes = adds-wider (grows-touches v o) grows;
     shape = it.shape;
     slots = omega (arith, slots-same);
     tree = it.tree;
@@ -191,10 +245,12 @@ module _ (maps : MapsAreKept) (details : DetailsRise) (unused : UnusedSaysNothin
       child = moved.child;
       changed = changed-on v w x o changed-here owns-here moved.changed;
       opens = λ k g none gate shared parent. opens-on k g gate shared parent none (gate_in w.trail k) refl;
+      detail = moved.detail;
+      narrow = moved.narrow;
       grown = moved.grown;
       shared = moved.shared;
       moved = moved.moved;
-      proto = moved.proto ∙ ap (λ (r : RootWord). r.is_proto) root-same;
+      proto = moved.proto ∙ proto-same;
       room = moved.room;
       words = λ k lt. moved.words k lt ∙ word-same k;
       form = moved.form;

@@ -8,12 +8,13 @@ use Rattle.hc_heap.specs.States.{Goes}
 use Rattle.hc_table.specs.Changes.{Did, Moved, after}
 use Rattle.hc_table.specs.World.{World}
 use Rattle.hc_objects.specs.Changes.{KeptBut}
-use Rattle.hc_objects.specs.Meaning.{Dictionary, cause_in, kept_of}
+use Rattle.hc_slots.specs.Meaning.{Dictionary}
+use Rattle.hc_objects.specs.Meaning.{cause_in, kept_of}
 use Rattle.hc_objects.specs.Modes.{IsOne, Becomes, AllStay}
 use Rattle.hc_objects.specs.State.{ObjectsState}
 use Rattle.hc_objects.specs.Came.{IsStill, Steps, Move, Left, HasLeft, AreMoves, Moves, Made, Effect, moves_before, world_of}
 use Rattle.hc_objects.specs.Laws.{still-refl}
-use Rattle.hc_objects.proofs.Sound.{same-or}
+use Rattle.hc_slots.specs.Cases.{same-or}
 
 -- Steps
 
@@ -85,11 +86,11 @@ one-stays {P} a b o but same = λ p. same-or p o (cause_in b.kept p ≡ cause_in
 module _ {P : Type 0} (went : P → List Access → List Access → P → Type 0) where
   -- nothing is no move
   pub still-moves : (a b : ObjectsState P) → IsStill a b → Moves went a b
-  still-moves a b h = record { moves = []; few = omega arith; are = h }
+  still-moves a b h = record { moves = []; few = omega arith; ends = tt; are = h }
 
   -- a fast object became slow, and nothing else was done
   pub left-moves : (a b : ObjectsState P) (o : ℕ) (cause : Cause) → HasLeft went a o cause b → Moves went a b
-  left-moves a b o cause h = record { moves = Left o cause ∷ []; few = omega arith; are = (b, h, still-refl b) }
+  left-moves a b o cause h = record { moves = Left o cause ∷ []; few = omega arith; ends = tt; are = (b, h, still-refl b) }
 
   -- an operation without a move before it
   pub effect-alone : (a b : ObjectsState P) (did : Did) → moves_before a did ≡ [] → Made went a did b → Effect went a did b

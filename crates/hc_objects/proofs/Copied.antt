@@ -5,7 +5,7 @@ use Rattle.hc_layout.specs.declared.shape.Region.TheVariants.{Maps}
 use Rattle.hc_layout.specs.declared.shape.Shape.{Shape}
 use Rattle.hc_layout.specs.declared.words.MapBits.{MapBits}
 use Rattle.hc_layout.specs.declared.words.StoreWord.{StoreWord}
-use Rattle.hc_heap.specs.Writes.{Write, Trail, Bits, Head}
+use Rattle.hc_heap.specs.Writes.{Write, Trail, Bits, Head, ObjectMap, Root, Store, Slot}
 use Rattle.hc_heap.specs.Readings.{bits_in, map_in, root_in, slot_in, store_in}
 use Rattle.hc_value.specs.declared.field.Class.{Class}
 use Rattle.hc_value.specs.declared.field.Class.TheVariants.{Of, Any}
@@ -19,17 +19,34 @@ use Rattle.hc_tree.specs.Kept.{MapsAreKept}
 use Rattle.hc_tree.specs.Copying.{IsPrivateCopy, MayBeLast, More, copied_count, copy_need}
 use Rattle.hc_tree.specs.Growth.{MakesMap, marked}
 use Rattle.hc_tree.specs.Needs.{with_need}
-use Rattle.hc_objects.specs.Meaning.{slot_word}
-use Rattle.hc_objects.specs.State.{IsIn, Owns}
+use Rattle.hc_slots.specs.Meaning.{slot_word}
+use Rattle.hc_slots.specs.Slots.{IsIn, Owns}
 use Rattle.hc_objects.specs.Changes.{Changed, OpensNoRoot}
 use Rattle.hc_objects.specs.Privates.{IsCopied}
-use Rattle.hc_objects.proofs.Childed.{map-by, store-by, slot-by, root-by}
 use Rattle.hc_objects.proofs.Staying.{IsLater, later}
 use Rattle.hc_objects.proofs.Marking.{makes-at}
 use Rattle.hc_objects.proofs.Steps.{bits-by, marked-unstable, opens-one, own-map, private-no-root}
 use Rattle.hc_objects.proofs.Touching.{map-made}
 
 -- A marked map
+
+-- What the writes of a copy leave as it was
+
+map-by : (used : Shape) (q : Option ℕ) (o : ℕ) (t : Trail) (w : Write) → MakesMap used q t w → map_in (w ∷ t) o ≡ map_in t o
+map-by used q o t (ObjectMap i h) e = absurd e
+map-by used q o t _ e = refl
+
+store-by : (used : Shape) (q : Option ℕ) (o : ℕ) (t : Trail) (w : Write) → MakesMap used q t w → store_in (w ∷ t) o ≡ store_in t o
+store-by used q o t (Store i h) e = absurd e
+store-by used q o t _ e = refl
+
+slot-by : (used : Shape) (q : Option ℕ) (s : ℕ) (t : Trail) (w : Write) → MakesMap used q t w → slot_in (w ∷ t) s ≡ slot_in t s
+slot-by used q s t (Slot i h) e = absurd e
+slot-by used q s t _ e = refl
+
+root-by : (used : Shape) (q : Option ℕ) (o : ℕ) (t : Trail) (w : Write) → MakesMap used q t w → root_in (w ∷ t) o ≡ root_in t o
+root-by used q o t (Root i h) e = absurd e
+root-by used q o t _ e = refl
 
 abbrev unstable_bits : Trail → ℕ → MapBits
 unstable_bits t m = record { unstable = true; deprecated = (bits_in t m).deprecated }
@@ -46,7 +63,7 @@ class-by s t m b (Of x) h = h
 class-by s t m b Any h = h
 
 last-by : (s : Shape) (t : Trail) (m : ℕ) (b : MapBits) (more : More) → IfSome more (λ e. MayBeLast s t m e.0 e.1) → IfSome more (λ e. MayBeLast s (Bits m b ∷ t) m e.0 e.1)
-last-by s t m b (Some e) h = record { form = h.form; proper = h.proper; lacks = h.lacks; accessor = h.accessor; class = h.class; there = class-by s t m b e.1.class h.there; tagged = h.tagged }
+last-by s t m b (Some e) h = record { form = h.form; proper = h.proper; lacks = h.lacks; accessor = h.accessor; class = h.class; there = class-by s t m b e.1.class h.there; narrow = h.narrow }
 last-by s t m b None h = h
 
 -- an entry that may come after those of a map may do so once the map is unstable

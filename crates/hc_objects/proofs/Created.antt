@@ -1,5 +1,5 @@
 -- An object is made in steps: it is slow at first, then its prototype becomes one, and then it comes to a root.
-use Rattle.hc_objects.specs.Rest.{Marks}
+use Rattle.hc_objects.specs.Rest.{AreLone, Marks}
 use Rattle.std.proofs.Common.{◌≡◌, ◌≢◌, ℕ, zero, suc, ◌+◌, ◌<◌, ◌≤◌, false, List, [], ◌∷◌, ◌++◌, Option, Some, None, IfSome, length, take, refl, sym, ap, ◌∙◌, subst, arith, length-append}
 use Rattle.std.specs.Prelude.{IsTrue, option_map}
 use Rattle.hc_board.specs.Trail.{Access}
@@ -20,7 +20,8 @@ use Rattle.hc_objects.specs.Came.{Effect, IsBecome, IsStill, Made, Steps, world_
 use Rattle.hc_objects.specs.Creating.{IsBegun, IsEntered}
 use Rattle.hc_objects.specs.Inheriting.{IsNamed, IsNamedNow, IsSpareOf, if_named, named_need}
 use Rattle.hc_objects.specs.Laws.{steps-before, still-refl}
-use Rattle.hc_objects.specs.Meaning.{Dictionary, cause_in, kept_of, object_at, object_shown}
+use Rattle.hc_slots.specs.Meaning.{Dictionary, object_shown}
+use Rattle.hc_objects.specs.Meaning.{cause_in, kept_of, object_at}
 use Rattle.hc_objects.specs.Modes.{Becomes, IsWithin, StaysFast, if_fast, proto_need}
 use Rattle.hc_objects.specs.State.{ObjectsState}
 use Rattle.hc_objects.proofs.Composing.{cause-but}
@@ -203,7 +204,7 @@ module _ {P : Type 0} (went : P → List Access → List Access → P → Type 0
     };
     needs = subst (λ (s : Shape). IsWithin root mid.heap.view.used s) (sym used) (by (cause_in d.kept o));
     protos = λ q. entered.protos q ∙ ap (λ (v : View). (root_in v.trail q).is_proto) made.view;
-    marks = tt;
+    marks = record { object = o; none = ap (λ (v : View). map_in v.trail o) (sym made.view) ∙ entered.none; marks = subst (λ (v : View). Marks v.trail d.heap.view.trail o) made.view entered.marks };
   }
     where
       root : Need
@@ -261,8 +262,8 @@ module _ {P : Type 0} (went : P → List Access → List Access → P → Type 0
     used-mid = ap (λ (s : Shape). let r : Shape = record s { objects = a.heap.view.used.objects } in r) is.used
 
     -- the object that was named is a prototype, before another is made
-    pub become-mid : (p : ℕ) → proto ≡ Some p → p < length a.kept → HowBecame a p mid → Lawful c.heap.view.shape c.heap.view.trail → IsBecome went a p mid
-    become-mid p names lt how lawful = record {
+    pub become-mid : (p : ℕ) → proto ≡ Some p → p < length a.kept → HowBecame a p mid → Lawful c.heap.view.shape c.heap.view.trail → AreLone c.heap.view.trail → IsBecome went a p mid
+    become-mid p names lt how lawful lone = record {
       steps = record { world = world-mid; shape = is.steps.shape; goes = is.steps.goes; went = is.steps.went };
       mode = subst (λ (x : Option Cause). Becomes (cause_in a.kept p) None (HasSpace a.heap.view (proto_need a.heap.view.trail p)) x) (sym (cause-front p lt))
           (subst (λ (x : Option ℕ). IsNamed a x c) names is.named);
@@ -276,6 +277,7 @@ module _ {P : Type 0} (went : P → List Access → List Access → P → Type 0
           (λ past. cause-none mid.kept q (omega (arith, past, items)) ∙ sym (cause-none a.kept q past));
       how = how;
       lawful = lawful;
+      lone = lone;
     }
 
     -- and then that is made
@@ -312,6 +314,7 @@ module _ {P : Type 0} (went : P → List Access → List Access → P → Type 0
         let front = kept-front c.kept (length a.kept) p lt in
         record {
           marks = subst (λ (t : Trail). Marks t c.heap.view.trail p) (ap (λ (v : View). v.trail) view) how.marks;
+          own = λ m is shared. how.own m is (ap (λ (v : View). (root_in v.trail p).is_proto) view ∙ shared);
           owns = λ m has shared fast. owned p m (how.owns m (ap (λ (v : View). map_in v.trail p) view ∙ has) (ap (λ (v : View). (root_in v.trail p).is_proto) view ∙ shared) (ap (λ (d : Option Dictionary). option_map (λ x. x.cause) d) (sym front) ∙ fast)) view;
         }
       where
@@ -321,17 +324,17 @@ module _ {P : Type 0} (went : P → List Access → List Access → P → Type 0
         owned : (p m : ℕ) → HasOwnCopy b.heap.view c.heap.view p m → b.heap.view ≡ record a.heap.view { used = record a.heap.view.used { objects = o + 1 } } → HasOwnCopy a.heap.view (before (length a.kept) c a.heap.view.used.objects).heap.view p m
         owned p m own view = again p m (subst (λ (v : View). HasOwnCopy v c.heap.view p m) view own)
 
-    pub created : (proto : Option ℕ) → IsThere (world_of a) proto → IsBegun went still proto o b → IsNamedNow went b proto c → (proto ≡ None → c ≡ b) → IfSome proto (λ p. HowBecame b p c) → Lawful c.heap.view.shape c.heap.view.trail → IsEntered went c o proto d → Effect went a (Created proto) d
-    created (Some p) there begun named none how lawful entered =
+    pub created : (proto : Option ℕ) → IsThere (world_of a) proto → IsBegun went still proto o b → IsNamedNow went b proto c → (proto ≡ None → c ≡ b) → IfSome proto (λ p. HowBecame b p c) → Lawful c.heap.view.shape c.heap.view.trail → AreLone c.heap.view.trail → IsEntered went c o proto d → Effect went a (Created proto) d
+    created (Some p) there begun named none how lawful lone entered =
         let is : IsReady a (Some p) o c = ready a b c (Some p) o still is_still begun there named in
         let lt : p < length a.kept = (let count = length-world a.heap.view.trail a.kept in omega (arith, there, count)) in
         let mid : ObjectsState P = before (length a.kept) c a.heap.view.used.objects in
         record {
           mid = mid;
-          moves = (mid, become-mid stays a c (Some p) o there is p refl lt (how-mid p lt begun how) lawful, still-refl mid);
+          moves = (mid, become-mid stays a c (Some p) o there is p refl lt (how-mid p lt begun how) lawful lone, still-refl mid);
           own = entered-made mid c d (Some p) o (made-mid stays a c (Some p) o there is p refl) entered;
         }
-    created None there begun named none how lawful entered =
+    created None there begun named none how lawful lone entered =
         record {
           mid = a;
           moves = still-refl a;

@@ -15,7 +15,8 @@ use Rattle.hc_table.specs.Kept.{ChangesKeep}
 use Rattle.hc_table.specs.declared.fault.TableFault.{TableFault}
 use Rattle.hc_table.specs.declared.fault.TableFault.TheVariants.{Memory, Full}
 use Rattle.hc_table.specs.World.{new_object, object, with_object}
-use Rattle.hc_objects.specs.Meaning.{Dictionary, dictionary_object, object_shown, world}
+use Rattle.hc_slots.specs.Meaning.{Dictionary, dictionary_object, object_shown}
+use Rattle.hc_objects.specs.Meaning.{world}
 use Rattle.hc_objects.specs.State.{ObjectsState, IsObjects, tables_of}
 use Rattle.hc_objects.specs.Changes.{Changed, IsWell}
 use Rattle.hc_objects.specs.Came.{world_of}

@@ -5,6 +5,7 @@ use Rattle.std.specs.Prelude.{IsSomeAnd, IsTrue}
 use Rattle.hc_layout.specs.declared.shape.Region.TheVariants.{Maps}
 use Rattle.hc_layout.specs.declared.shape.Shape.{Shape}
 use Rattle.hc_layout.specs.declared.words.GateWord.{GateWord}
+use Rattle.hc_layout.specs.declared.words.MapBits.{MapBits}
 use Rattle.hc_layout.specs.declared.words.RootWord.{RootWord}
 use Rattle.hc_layout.specs.declared.words.StoreWord.{StoreWord}
 use Rattle.hc_heap.specs.Writes.{Trail, ObjectMap}
@@ -20,18 +21,21 @@ use Rattle.hc_tree.specs.Needs.{with_need}
 use Rattle.hc_tree.specs.Tree.{gate_with}
 use Rattle.hc_table.specs.World.{Object, new_object, object}
 use Rattle.hc_objects.specs.Changes.{Touches, Changed, IsWell}
-use Rattle.hc_objects.specs.Listed.{listed}
-use Rattle.hc_objects.specs.Meaning.{Dictionary, is_extensible, kept_of, object_shown, prop_in, proto_of, world}
-use Rattle.hc_objects.specs.State.{AreHandedOut, AreRoots, IsIn, IsObjects}
+use Rattle.hc_slots.specs.Listed.{listed}
+use Rattle.hc_slots.specs.Meaning.{Dictionary, is_extensible, object_shown, prop_in, proto_of}
+use Rattle.hc_objects.specs.Meaning.{kept_of, world}
+use Rattle.hc_slots.specs.Slots.{AreHandedOut, IsIn}
+use Rattle.hc_objects.specs.State.{AreRoots, IsObjects}
 use Rattle.hc_objects.proofs.Items.{kept-set, kept-set_here}
 use Rattle.hc_objects.proofs.Left.{set-object}
 use Rattle.hc_objects.proofs.Owning.{open-used}
-use Rattle.hc_objects.proofs.Rising.{not-both}
+use Rattle.hc_slots.specs.Cases.{cond-other, not-both, some-is}
 use Rattle.hc_objects.proofs.Rooted.{IsRooted, rooted, rooted-roots}
-use Rattle.hc_objects.proofs.Sound.{is-later, others-same, roots-stay, some-is, sound-after, still-out, tables-after}
+use Rattle.hc_objects.proofs.Sound.{is-later, others-same, roots-stay, sound-after, still-out, tables-after}
 use Rattle.hc_objects.proofs.Staying.{IsLater, later}
 use Rattle.hc_objects.proofs.Steps.{move-tree}
 use Rattle.hc_objects.proofs.Touching.{map-moved, root-made}
+use Rattle.hc_objects.specs.Rest.{Marks}
 use Rattle.hc_objects.proofs.Worlds.{length-world, world-set}
 
 -- What the words say after a root was found or made
@@ -44,6 +48,11 @@ rooted-map : (t : Trail) (r q : ℕ) (proto x : Option ℕ) → map_in (rooted x
 rooted-map t r q proto (Some m) = refl
 rooted-map t r q (Some p) None = refl
 rooted-map t r q None None = refl
+
+rooted-bits : (t : Trail) (r m : ℕ) (proto x : Option ℕ) → bits_in (rooted x t proto r) m ≡ bits_in t m
+rooted-bits t r m proto (Some k) = refl
+rooted-bits t r m (Some p) None = refl
+rooted-bits t r m None None = refl
 
 rooted-store : (t : Trail) (r q : ℕ) (proto x : Option ℕ) → store_in (rooted x t proto r) q ≡ store_in t q
 rooted-store t r q proto (Some m) = refl
@@ -93,6 +102,15 @@ module _ (maps : MapsAreKept) (details : DetailsRise) (trees : TreesStay) (unuse
 
     pub enter-proto : (q : ℕ) → (root_in new.trail q).is_proto ≡ (root_in v.trail q).is_proto
     enter-proto q = w-proto q
+
+    -- no map is made unstable
+    pub enter-marks : Marks v.trail new.trail o
+    enter-marks = record {
+      marks = λ m stable unstable. absurd (true≢false (sym unstable ∙ ap (λ (t : Trail). (bits_in t m).unstable) it.trail ∙ ap (λ (b : MapBits). b.unstable) (rooted-bits v.trail r m proto (root_of v.trail proto null)) ∙ stable));
+      first = λ m gone stable. let n : None ≡ Some m = sym none ∙ gone.was in let f : ⊥ = cc in absurd f;
+      maps = λ q other. cond-other o q (Some r) (map_in w.trail q) (λ e. other (sym e)) ∙ ap (λ (t : Trail). map_in t q) it.trail ∙ rooted-map v.trail r q proto (root_of v.trail proto null);
+      own = λ m is has. absurd (true≢false (sym has ∙ enter-proto o ∙ shared));
+    }
 
     slots-same : new.used.slots ≡ v.used.slots
     slots-same = ap (λ (s : Shape). s.slots) it.used ∙ by (root_of v.trail proto null)

@@ -1,7 +1,7 @@
 -- What writes of the tree leave as it was.
-use Rattle.std.proofs.Common.{◌≡◌, ℕ, ◌∷◌, refl}
+use Rattle.std.proofs.Common.{◌≡◌, ℕ, Bool, true, false, cond, eqb, eqb-true, ◌∷◌, refl, ap, ◌∙◌}
 use Rattle.hc_heap.specs.Writes.{Write, Trail, Bits, ObjectMap, Root, Store, Slot}
-use Rattle.hc_heap.specs.Readings.{map_in, store_in, slot_in}
+use Rattle.hc_heap.specs.Readings.{map_in, root_in, store_in, slot_in}
 use Rattle.hc_heap.specs.States.{View}
 use Rattle.hc_objects.specs.Changes.{Touches}
 use Rattle.hc_objects.specs.Linking.{GrowsTree}
@@ -25,3 +25,12 @@ store-grown o t _ e = refl
 pub slot-grown : (s : ℕ) (t : Trail) (w : Write) → GrowsTree t w → slot_in (w ∷ t) s ≡ slot_in t s
 slot-grown s t (Slot i v) e = absurd e
 slot-grown s t _ e = refl
+
+-- whether an object is a prototype stays
+pub proto-grown : (q : ℕ) (t : Trail) (w : Write) → GrowsTree t w → (root_in (w ∷ t) q).is_proto ≡ (root_in t q).is_proto
+proto-grown q t (Root i r) e = by (eqb i q) refl
+  where
+    by : (c : Bool) → eqb i q ≡ c → (cond c r (root_in t q)).is_proto ≡ (root_in t q).is_proto
+    by true is = e.0 ∙ ap (λ (x : ℕ). (root_in t x).is_proto) (eqb-true i q is)
+    by false is = refl
+proto-grown q t _ e = refl

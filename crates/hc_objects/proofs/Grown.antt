@@ -7,13 +7,12 @@ use Rattle.hc_value.specs.declared.prop.Held.{Held}
 use Rattle.hc_value.specs.declared.prop.Prop.{Prop}
 use Rattle.hc_heap.specs.Writes.{Trail}
 use Rattle.hc_heap.specs.Readings.{gate_in, prototype_in}
-use Rattle.hc_descs.specs.Entries.{key_at, field_at, count_of, entries_in}
-use Rattle.hc_tree.specs.Copying.{detail_of, detail_at}
+use Rattle.hc_descs.specs.Entries.{key_at, field_at, count_of, entries_in, detail_of, detail_at}
 use Rattle.hc_table.specs.World.{Object, with_list}
-use Rattle.hc_objects.specs.Listed.{listed}
-use Rattle.hc_objects.specs.Meaning.{held_in, prop_of, prop_in, slot_word, proto_of, is_extensible, fast_props, fast_object}
-use Rattle.hc_objects.specs.Changes.{property, IsGrown, SlotsStay}
-use Rattle.hc_objects.proofs.Listed.{listed-more}
+use Rattle.hc_slots.specs.Listed.{listed, listed-more}
+use Rattle.hc_slots.specs.Meaning.{held_in, prop_of, prop_in, slot_word, proto_of, is_extensible, fast_props, fast_object}
+use Rattle.hc_objects.specs.Changes.{property, IsGrown}
+use Rattle.hc_slots.specs.Slots.{SlotsStay}
 use Rattle.hc_objects.proofs.Staying.{IsLater, prop-stays, proto-stays}
 
 module _ (old new : Trail) (later : IsLater old new) (o m c : ℕ) (g : GateWord) (key : Key) (detail : Detail) where

@@ -10,7 +10,7 @@ use Rattle.hc_value.specs.Prop.{kind_of}
 use Rattle.hc_value.specs.declared.field.Rep.TheVariants.{Tagged}
 use Rattle.hc_value.specs.declared.prop.Prop.{Prop}
 use Rattle.hc_heap.specs.Writes.{Write, Trail, ObjectMap}
-use Rattle.hc_heap.specs.Readings.{bits_in, gate_in, map_in, parent_in, prototype_in, root_in, store_in}
+use Rattle.hc_heap.specs.Readings.{bits_in, detail_in, gate_in, map_in, parent_in, prototype_in, root_in, store_in}
 use Rattle.hc_heap.specs.Lawful.{HoldsEntries, IsFormOf, Lawful, LawfulObjectMap}
 use Rattle.hc_heap.specs.Kept.{Adds, DetailsRise, FormsAreKept, GoesOn, UnusedSaysNothing}
 use Rattle.hc_heap.specs.Frames.{adds-on, adds-one, adds-wider, goes-on-of, same-after}
@@ -20,21 +20,22 @@ use Rattle.hc_tree.specs.Copying.{IsPrivateCopy, copy_need}
 use Rattle.hc_tree.specs.Growth.{MayBePrototype}
 use Rattle.hc_tree.specs.Kept.{MapsAreKept, TreeIsSame, TreesStay}
 use Rattle.hc_tree.specs.Needs.{HasSpace, with_need}
-use Rattle.hc_tree.specs.Tree.{gate_with, tagged_field}
-use Rattle.hc_objects.specs.Changes.{Changed, IsGrown, OpensNoRoot, SlotsStay, Touches, key_of}
-use Rattle.hc_objects.specs.Filling.{FillsStore, IsFitted, slots_need}
-use Rattle.hc_objects.specs.Meaning.{held_in, slot_word}
+use Rattle.hc_tree.specs.Tree.{gate_with, IsNarrow}
+use Rattle.hc_objects.specs.Changes.{Changed, IsGrown, OpensNoRoot, Touches, key_of}
+use Rattle.hc_slots.specs.Slots.{SlotsStay, FillsStore, IsFitted, slots_need, AreHandedOut}
+use Rattle.hc_slots.specs.Meaning.{held_in, slot_word}
 use Rattle.hc_objects.specs.Modes.{IsWithin}
 use Rattle.hc_objects.specs.Privates.{IsCopied, IsGrownAlone, private_need}
-use Rattle.hc_objects.specs.State.{AreHandedOut, IsFast}
+use Rattle.hc_slots.specs.Fast.{IsFast}
 use Rattle.hc_objects.proofs.Copied.{copy-changed, copy-later, copy-opens, copy-owns, copy-there, map-same, objects-same, root-same, slots-same, store-same, word-same}
 use Rattle.hc_objects.proofs.Creating.{proto-none}
 use Rattle.hc_objects.proofs.Holding.{holds-grown}
 use Rattle.hc_objects.proofs.Marking.{fills-at}
 use Rattle.hc_objects.proofs.Owning.{open-used}
-use Rattle.hc_objects.proofs.Joining.{bits-by, grown-later, map-by, root-by, touches-by, tree-by}
-use Rattle.hc_objects.proofs.Rising.{some-of}
-use Rattle.hc_objects.proofs.Sound.{some-is}
+use Rattle.hc_objects.proofs.Rising.{form-between, not-wide}
+use Rattle.hc_value.specs.declared.field.Detail.{Detail}
+use Rattle.hc_objects.proofs.Joining.{bits-by, detail-by, grown-later, map-by, root-by, touches-by, tree-by}
+use Rattle.hc_slots.specs.Cases.{some-of, some-is}
 use Rattle.hc_objects.proofs.Sparing.{kept-after}
 use Rattle.hc_objects.proofs.Staying.{IsLater, later}
 use Rattle.hc_objects.proofs.Steps.{grown-copy}
@@ -56,19 +57,19 @@ opens-before v w x opens after same m g none gate shared parent =
     opens m g none before shared (up.1 ∙ sym (after.maps.written.parent m up.0 up.1) ∙ parent)
 
 -- a copy with one entry more was made
-module _ (maps : MapsAreKept) (details : DetailsRise) (trees : TreesStay) (unused : UnusedSaysNothing) (proto : Option ℕ) (v w : View) (o m n : ℕ) (p : Prop)
-    (heap : IsHeap v) (it : IsCopied false (Some (key_of p, tagged_field)) proto v w m) (has : map_in v.trail o ≡ Some m) (fast : IsFast v.trail o m (gate_with n true)) (is_proto : prototype_in v.trail m ≡ Some proto) where
+module _ (maps : MapsAreKept) (details : DetailsRise) (trees : TreesStay) (unused : UnusedSaysNothing) (proto : Option ℕ) (v w : View) (o m n : ℕ) (p : Prop) (d : Detail)
+    (heap : IsHeap v) (it : IsCopied false (Some (key_of p, d)) proto v w m) (has : map_in v.trail o ≡ Some m) (fast : IsFast v.trail o m (gate_with n true)) (is_proto : prototype_in v.trail m ≡ Some proto) (narrow : IsNarrow d) where
   after : IsLater v.trail w.trail
-  after = copy-later maps details unused false (Some (key_of p, tagged_field)) proto v w m heap it
+  after = copy-later maps details unused false (Some (key_of p, d)) proto v w m heap it
 
   map-then : map_in w.trail o ≡ map_in v.trail o
-  map-then = map-same maps details unused false (Some (key_of p, tagged_field)) proto v w m heap it o
+  map-then = map-same maps details unused false (Some (key_of p, d)) proto v w m heap it o
 
   store-then : store_in w.trail o ≡ store_in v.trail o
-  store-then = store-same maps details unused false (Some (key_of p, tagged_field)) proto v w m heap it o
+  store-then = store-same maps details unused false (Some (key_of p, d)) proto v w m heap it o
 
   slots-then : w.used.slots ≡ v.used.slots
-  slots-then = slots-same maps details unused false (Some (key_of p, tagged_field)) proto v w m heap it
+  slots-then = slots-same maps details unused false (Some (key_of p, d)) proto v w m heap it
 
   pub capacity-then : n ≤ (store_in w.trail o).capacity
   capacity-then = subst (λ (x : StoreWord). n ≤ x.capacity) (sym store-then) fast.holds.capacity
@@ -77,7 +78,7 @@ module _ (maps : MapsAreKept) (details : DetailsRise) (trees : TreesStay) (unuse
   out-then out = subst (λ (s : ℕ). AreHandedOut s (store_in w.trail o)) (sym slots-then) (subst (λ (x : StoreWord). AreHandedOut v.used.slots x) (sym store-then) out)
 
   pub handed-then : o < v.used.objects → o < w.used.objects
-  handed-then lt = subst (λ (k : ℕ). o < k) (sym (objects-same maps details unused false (Some (key_of p, tagged_field)) proto v w m heap it)) lt
+  handed-then lt = subst (λ (k : ℕ). o < k) (sym (objects-same maps details unused false (Some (key_of p, d)) proto v w m heap it)) lt
 
   pub unstable-then : IfSome (map_in w.trail o) (λ k. IsTrue (bits_in w.trail k).unstable)
   unstable-then = subst (λ (y : Option ℕ). IfSome y (λ k. IsTrue (bits_in w.trail k).unstable)) (sym (map-then ∙ has)) it.unstable
@@ -92,14 +93,14 @@ module _ (maps : MapsAreKept) (details : DetailsRise) (trees : TreesStay) (unuse
   open-then : gate_in w.trail m ≡ Some (gate_with n true)
   open-then = after.maps.written.gate m (gate_with n true) fast.is_open
 
-  copy : IsPrivateCopy false (Some (key_of p, tagged_field)) proto w.trail v.used.maps m n v.used.fields
-  copy = subst (λ (k : ℕ). IsPrivateCopy false (Some (key_of p, tagged_field)) proto w.trail v.used.maps m k v.used.fields) (ap entries_in fast.is_open) it.copy
+  copy : IsPrivateCopy false (Some (key_of p, d)) proto w.trail v.used.maps m n v.used.fields
+  copy = subst (λ (k : ℕ). IsPrivateCopy false (Some (key_of p, d)) proto w.trail v.used.maps m k v.used.fields) (ap entries_in fast.is_open) it.copy
 
-  used-then : w.used ≡ with_need (copy_need false (Some (key_of p, tagged_field)) n) v.used
-  used-then = subst (λ (k : ℕ). w.used ≡ with_need (copy_need false (Some (key_of p, tagged_field)) k) v.used) (ap entries_in fast.is_open) it.used
+  used-then : w.used ≡ with_need (copy_need false (Some (key_of p, d)) n) v.used
+  used-then = subst (λ (k : ℕ). w.used ≡ with_need (copy_need false (Some (key_of p, d)) k) v.used) (ap entries_in fast.is_open) it.used
 
-  grown-then : IsGrown w.trail m v.used.maps n (key_of p) tagged_field
-  grown-then = grown-copy w.trail proto m v.used.maps n v.used.fields (key_of p) tagged_field (after.maps.written.prototype m proto is_proto) copy
+  grown-then : IsGrown w.trail m v.used.maps n (key_of p) d
+  grown-then = grown-copy w.trail proto m v.used.maps n v.used.fields (key_of p) d (after.maps.written.prototype m proto is_proto) copy
 
   -- the slot of the property was filled
   module _ (x : View) (word : ℕ) (filled : IsHeap x) (fitted : IsFitted w x o n) (most : x.used.slots ≤ w.used.slots + slots_need n (store_in w.trail o).capacity)
@@ -115,32 +116,35 @@ module _ (maps : MapsAreKept) (details : DetailsRise) (trees : TreesStay) (unuse
 
     whole-later : IsLater v.trail x.trail
     whole-later =
-        let changed = copy-changed maps details unused false (Some (key_of p, tagged_field)) proto v w m heap it o in
+        let changed = copy-changed maps details unused false (Some (key_of p, d)) proto v w m heap it o in
         let writes : Adds (λ t y. Unit {0}) v.trail x.trail = adds-on (any (Touches v o) v.trail w.trail changed.writes) (any (FillsStore w o) w.trail x.trail fitted.writes) in
         later maps details v.shape v.trail x.trail heap.lawful
         (goes-on-of v.shape writes
         (subst (λ (s : Shape). Lawful s x.trail) (fitted.shape ∙ it.shape) filled.lawful))
 
     words-then : SlotsStay v.trail x.trail o n
-    words-then k lt = fitted.words k lt ∙ word-same maps details unused false (Some (key_of p, tagged_field)) proto v w m heap it o k
+    words-then k lt = fitted.words k lt ∙ word-same maps details unused false (Some (key_of p, d)) proto v w m heap it o k
 
     form-then : IsFormOf (kind_of p.held) Tagged (slot_word x.trail o n)
     form-then = subst (λ (y : ℕ). IsFormOf (kind_of p.held) Tagged y) (sym last) form
 
-    filled-grown : IsGrown x.trail m v.used.maps n (key_of p) tagged_field
-    filled-grown = grown-later w.trail x.trail fill-later m v.used.maps n (gate_with n true) (key_of p) open-then refl grown-then
+    filled-details : (f : ℕ) → detail_in x.trail f ≡ detail_in w.trail f
+    filled-details f = same-after (λ (t : Trail). detail_in t f) (detail-by w o f) fitted.writes
+
+    filled-grown : IsGrown x.trail m v.used.maps n (key_of p) d
+    filled-grown = grown-later w.trail x.trail fill-later filled-details m v.used.maps n (gate_with n true) (key_of p) d open-then refl grown-then
 
     -- the object may have the copy
     pub grow-lawful : LawfulObjectMap x.shape x.trail o (Some v.used.maps)
     grow-lawful =
-        let there = copy-there maps details unused false (Some (key_of p, tagged_field)) proto v w m heap it in
+        let there = copy-there maps details unused false (Some (key_of p, d)) proto v w m heap it in
         record {
           leaves = subst (λ (y : Option ℕ). IfSome y (λ k. IsTrue (bits_in x.trail k).unstable)) (sym (same-after (λ (t : Trail). map_in t o) (map-by w o o) fitted.writes ∙ map-then ∙ has))
               (subst (λ (b : MapBits). IsTrue b.unstable) (sym (same-after (λ (t : Trail). bits_in t m) (bits-by w o m) fitted.writes)) it.unstable);
           gets = record {
             there = subst (λ (s : Shape). v.used.maps < s.maps) (sym fitted.shape) there;
             filled = subst (λ (y : Option GateWord). IsSomeAnd y (λ z. HoldsEntries x.trail o v.used.maps z)) (sym filled-grown.is_open)
-                (holds-grown v.trail x.trail whole-later o m (gate_with n true) fast v.used.maps (key_of p) tagged_field filled-grown fitted.room words-then form-then);
+                (holds-grown v.trail x.trail whole-later o m (gate_with n true) fast v.used.maps (key_of p) d filled-grown fitted.room words-then (form-between (kind_of p.held) Tagged d.rep (slot_word x.trail o n) not-wide narrow form-then));
             own = λ yes. record {
               private = subst (λ (y : Option GateWord). IsSomeAnd y (λ z. IsTrue z.is_private)) (sym (fill-later.maps.written.gate v.used.maps (gate_with (n + 1) true) copy.gate)) refl;
               stable = ap (λ (b : MapBits). b.unstable) (same-after (λ (t : Trail). bits_in t v.used.maps) (bits-by w o v.used.maps) fitted.writes) ∙ it.own.stable;
@@ -176,8 +180,8 @@ module _ (maps : MapsAreKept) (details : DetailsRise) (trees : TreesStay) (unuse
         heap = moved_heap;
       }
 
-      new-grown : IsGrown new.trail m v.used.maps n (key_of p) tagged_field
-      new-grown = grown-later w.trail new.trail moved-later m v.used.maps n (gate_with n true) (key_of p) open-then refl grown-then
+      new-grown : IsGrown new.trail m v.used.maps n (key_of p) d
+      new-grown = grown-later w.trail new.trail moved-later filled-details m v.used.maps n (gate_with n true) (key_of p) d open-then refl grown-then
 
       needs-then : IsWithin (private_need (key_of p) n (store_in v.trail o).capacity) v.used new.used
       needs-then =
@@ -208,16 +212,18 @@ module _ (maps : MapsAreKept) (details : DetailsRise) (trees : TreesStay) (unuse
 
       pub grown-alone : IsGrownAlone v (with_write x (ObjectMap o (Some v.used.maps))) o m n p
       grown-alone =
-          let changed = copy-changed maps details unused false (Some (key_of p, tagged_field)) proto v w m heap it o in
-          let owns = copy-owns maps details unused false (Some (key_of p, tagged_field)) proto v w m heap it o in
-          let opens = copy-opens maps details unused false (Some (key_of p, tagged_field)) proto v w m heap it in
+          let changed = copy-changed maps details unused false (Some (key_of p, d)) proto v w m heap it o in
+          let owns = copy-owns maps details unused false (Some (key_of p, d)) proto v w m heap it o in
+          let opens = copy-opens maps details unused false (Some (key_of p, d)) proto v w m heap it in
           record {
             changed = changed-on v w new o changed owns moved-changed;
             opens = opens-before v w new opens moved-later tree-same.gates;
+            detail = d;
+            narrow = narrow;
             grown = new-grown;
             private = ap (λ (y : GateWord). y.is_private) (some-is new-grown.gate (gate_with (n + 1) true) (sym new-grown.is_open ∙ tree-same.gates v.used.maps ∙ copy.gate));
             moved = ap (λ (b : Bool). cond b (Some v.used.maps) (map_in x.trail o)) (eq-eqb o o refl);
-            roots = λ q. same-after (λ (t : Trail). root_in t q) (root-by w o q) fitted.writes ∙ root-same maps details unused false (Some (key_of p, tagged_field)) proto v w m heap it q;
+            roots = λ q. same-after (λ (t : Trail). root_in t q) (root-by w o q) fitted.writes ∙ root-same maps details unused false (Some (key_of p, d)) proto v w m heap it q;
             room = fitted.room;
             words = words-then;
             form = form-then;
@@ -228,5 +234,5 @@ module _ (maps : MapsAreKept) (details : DetailsRise) (trees : TreesStay) (unuse
             younger = open-used unused v heap m (gate_with n true) fast.is_open;
             stable = ap (λ (b : MapBits). b.unstable) (same-after (λ (t : Trail). bits_in t v.used.maps) (bits-by w o v.used.maps) fitted.writes) ∙ it.own.stable;
             after = adds-on it.after (adds-on (adds-wider (fills-at w o m) fitted.writes) (adds-one x.trail (ObjectMap o (Some v.used.maps)) tt));
-            objects = ap (λ (s : Shape). s.objects) fitted.used ∙ objects-same maps details unused false (Some (key_of p, tagged_field)) proto v w m heap it;
+            objects = ap (λ (s : Shape). s.objects) fitted.used ∙ objects-same maps details unused false (Some (key_of p, d)) proto v w m heap it;
           }

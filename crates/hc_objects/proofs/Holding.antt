@@ -7,13 +7,13 @@ use Rattle.hc_value.specs.declared.key.Key.{Key}
 use Rattle.hc_heap.specs.Writes.{Trail, ObjectMap}
 use Rattle.hc_heap.specs.Readings.{store_in, detail_in}
 use Rattle.hc_heap.specs.Lawful.{IsFormOf, HoldsEntry, HoldsEntries}
-use Rattle.hc_descs.specs.Entries.{key_at, field_at}
-use Rattle.hc_tree.specs.Copying.{detail_of, detail_at}
-use Rattle.hc_objects.specs.Meaning.{slot_word}
-use Rattle.hc_objects.specs.State.{IsFast}
-use Rattle.hc_objects.specs.Changes.{IsGrown, SlotsStay}
+use Rattle.hc_descs.specs.Entries.{key_at, field_at, detail_of, detail_at}
+use Rattle.hc_slots.specs.Meaning.{slot_word}
+use Rattle.hc_slots.specs.Fast.{IsFast}
+use Rattle.hc_objects.specs.Changes.{IsGrown}
+use Rattle.hc_slots.specs.Slots.{SlotsStay}
 use Rattle.hc_objects.proofs.Staying.{IsLater, holds-still}
-use Rattle.hc_objects.proofs.Sound.{same-or}
+use Rattle.hc_slots.specs.Cases.{same-or}
 
 -- a word holds what an entry with this key and field asks
 abbrev Holds : Trail → Option Key → Option ℕ → ℕ → Type 0

@@ -22,15 +22,16 @@ use Rattle.hc_objects.specs.Came.{AreMoves, Became, Effect, IsBecome, IsMarked, 
 use Rattle.hc_objects.specs.Changes.{KeptBut}
 use Rattle.hc_objects.specs.Inheriting.{IsLinkedNow, IsNamed, IsNamedNow, IsSpareFor, IsSpareOf, named_need, spared_named, spared_need}
 use Rattle.hc_objects.specs.Laws.{still-refl}
-use Rattle.hc_objects.specs.Meaning.{Dictionary, cause_in, kept_of, fast_props, prop_in, world}
+use Rattle.hc_slots.specs.Meaning.{Dictionary, fast_props, prop_in}
+use Rattle.hc_objects.specs.Meaning.{cause_in, kept_of, world}
 use Rattle.hc_objects.specs.Modes.{Becomes, StaysFast, both, if_fast, link_need, need_by, proto_need, walk_need}
-use Rattle.hc_objects.specs.Rest.{Marks, StartsByMark}
+use Rattle.hc_objects.specs.Rest.{AreLone, Marks, Relinks}
 use Rattle.hc_objects.specs.State.{ObjectsState, IsObjects}
 use Rattle.hc_objects.proofs.Adding.{map-is}
 use Rattle.hc_objects.proofs.Composing.{but-on, cause-but, no-cause, steps-on}
-use Rattle.hc_objects.proofs.Marking.{marks-start, words-start}
+use Rattle.hc_objects.proofs.Marking.{marks-relink, words-same}
 use Rattle.hc_objects.proofs.Needing.{within-same}
-use Rattle.hc_objects.proofs.Listed.{length-listed}
+use Rattle.hc_slots.specs.Listed.{length-listed}
 use Rattle.hc_objects.proofs.Writing.{has-map, props-are}
 
 -- Causes
@@ -188,8 +189,8 @@ module _ {P : Type 0} where
           (subst (λ (k : Need). IsSpareFor (HasSpace a.heap.view (both k (link_need a.heap.view.trail o proto a.of_null))) (object (world_of a) o) slow) (sym (named-is a b proto d spare it.mode)) h)
 
     -- what was named is a prototype now
-    become-of : (a b : ObjectsState P) (p : ℕ) → IsNamedNow went a (Some p) b → HowBecame a p b → Lawful b.heap.view.shape b.heap.view.trail → IsBecome went a p b
-    become-of a b p it how lawful = record {
+    become-of : (a b : ObjectsState P) (p : ℕ) → IsNamedNow went a (Some p) b → HowBecame a p b → Lawful b.heap.view.shape b.heap.view.trail → AreLone b.heap.view.trail → IsBecome went a p b
+    become-of a b p it how lawful lone = record {
       steps = it.steps;
       mode = it.mode;
       used = it.used;
@@ -198,6 +199,7 @@ module _ {P : Type 0} where
       others = λ q other. ap (λ (d : Option Dictionary). option_map (λ x. x.cause) d) (it.others q (λ e. let same : q ≡ p = cc in other same));
       how = how;
       lawful = lawful;
+      lone = lone;
     }
 
     -- an object got another prototype, after the moves before it
@@ -210,32 +212,32 @@ module _ {P : Type 0} where
         modes = record { this = linked.mode; others = λ q apart. cause-but b.kept c.kept o q linked.others apart };
         needs = linked.needs;
         protos = linked.protos;
-        marks = linked.starts;
+        marks = linked.relinks;
       };
     }
 
     -- the moves before a slow object gets it
-    pub slow-moves : (a b : ObjectsState P) (o : ℕ) (proto : Option ℕ) (cause : Cause) → cause_in a.kept o ≡ Some cause → IsNamedNow went a proto b → (proto ≡ None → b ≡ a) → IfSome proto (λ p. HowBecame a p b) → Lawful b.heap.view.shape b.heap.view.trail → AreMoves went a (moves_to_link a o proto) b
-    slow-moves a b o (Some p) cause slow it none how lawful =
-        subst (λ (c : Option Cause). AreMoves went a (marked_before c (cause_in a.kept p) o (Became p ∷ [])) b) (sym slow) (b, become-of a b p it how lawful, still-refl b)
-    slow-moves a b o None cause slow it none how lawful = subst (λ (s : ObjectsState P). IsStill a s) (sym (none refl)) (still-refl a)
+    pub slow-moves : (a b : ObjectsState P) (o : ℕ) (proto : Option ℕ) (cause : Cause) → cause_in a.kept o ≡ Some cause → IsNamedNow went a proto b → (proto ≡ None → b ≡ a) → IfSome proto (λ p. HowBecame a p b) → Lawful b.heap.view.shape b.heap.view.trail → AreLone b.heap.view.trail → AreMoves went a (moves_to_link a o proto) b
+    slow-moves a b o (Some p) cause slow it none how lawful lone =
+        subst (λ (c : Option Cause). AreMoves went a (marked_before c (cause_in a.kept p) o (Became p ∷ [])) b) (sym slow) (b, become-of a b p it how lawful lone, still-refl b)
+    slow-moves a b o None cause slow it none how lawful lone = subst (λ (s : ObjectsState P). IsStill a s) (sym (none refl)) (still-refl a)
 
     -- and before a fast one does: of a fast object, or of none
-    pub fast-moves : (a b : ObjectsState P) (o : ℕ) (proto : Option ℕ) → cause_in a.kept o ≡ None → ((p : ℕ) → proto ≡ Some p → cause_in a.kept p ≡ None) → IsNamedNow went a proto b → (proto ≡ None → b ≡ a) → IfSome proto (λ p. HowBecame a p b) → Lawful b.heap.view.shape b.heap.view.trail → AreMoves went a (moves_to_link a o proto) b
-    fast-moves a b o (Some p) fast named it none how lawful =
+    pub fast-moves : (a b : ObjectsState P) (o : ℕ) (proto : Option ℕ) → cause_in a.kept o ≡ None → ((p : ℕ) → proto ≡ Some p → cause_in a.kept p ≡ None) → IsNamedNow went a proto b → (proto ≡ None → b ≡ a) → IfSome proto (λ p. HowBecame a p b) → Lawful b.heap.view.shape b.heap.view.trail → AreLone b.heap.view.trail → AreMoves went a (moves_to_link a o proto) b
+    fast-moves a b o (Some p) fast named it none how lawful lone =
         subst (λ (c : Option Cause). AreMoves went a (marked_before c (cause_in a.kept p) o (Became p ∷ [])) b) (sym fast)
-        (subst (λ (c : Option Cause). AreMoves went a (marked_before None c o (Became p ∷ [])) b) (sym (named p refl)) (b, become-of a b p it how lawful, still-refl b))
-    fast-moves a b o None fast named it none how lawful = subst (λ (s : ObjectsState P). IsStill a s) (sym (none refl)) (still-refl a)
+        (subst (λ (c : Option Cause). AreMoves went a (marked_before None c o (Became p ∷ [])) b) (sym (named p refl)) (b, become-of a b p it how lawful lone, still-refl b))
+    fast-moves a b o None fast named it none how lawful lone = subst (λ (s : ObjectsState P). IsStill a s) (sym (none refl)) (still-refl a)
 
     -- of a slow object: its map is made unstable before
-    pub marked-moves : (a mid b : ObjectsState P) (o p : ℕ) (cause : Cause) → cause_in a.kept o ≡ None → cause_in a.kept p ≡ Some cause → IsMarked went a o mid → IsNamedNow went mid (Some p) b → HowBecame mid p b → Lawful b.heap.view.shape b.heap.view.trail → AreMoves went a (moves_to_link a o (Some p)) b
-    marked-moves a mid b o p cause fast slow is it how lawful =
+    pub marked-moves : (a mid b : ObjectsState P) (o p : ℕ) (cause : Cause) → cause_in a.kept o ≡ None → cause_in a.kept p ≡ Some cause → IsMarked went a o mid → IsNamedNow went mid (Some p) b → HowBecame mid p b → Lawful b.heap.view.shape b.heap.view.trail → AreLone b.heap.view.trail → AreMoves went a (moves_to_link a o (Some p)) b
+    marked-moves a mid b o p cause fast slow is it how lawful lone =
         subst (λ (c : Option Cause). AreMoves went a (marked_before c (cause_in a.kept p) o (Became p ∷ [])) b) (sym fast)
-        (subst (λ (c : Option Cause). AreMoves went a (marked_before None c o (Became p ∷ [])) b) (sym slow) (mid, is, (b, become-of mid b p it how lawful, still-refl b)))
+        (subst (λ (c : Option Cause). AreMoves went a (marked_before None c o (Became p ∷ [])) b) (sym slow) (mid, is, (b, become-of mid b p it how lawful lone, still-refl b)))
 
     -- a slow object got it
-    pub slow-linked : (b c : ObjectsState P) (o : ℕ) (proto : Option ℕ) (d : Dictionary) → kept_of b.kept o ≡ Some d → Steps went b (Linked o proto) c → c.heap ≡ b.heap → KeptBut o b.kept c.kept → cause_in c.kept o ≡ cause_in b.kept o → IsLinkedNow went b o proto c
-    slow-linked b c o proto d slow steps heap others same =
+    pub slow-linked : (b c : ObjectsState P) (o : ℕ) (proto : Option ℕ) (d : Dictionary) → kept_of b.kept o ≡ Some d → map_in b.heap.view.trail o ≡ None → Steps went b (Linked o proto) c → c.heap ≡ b.heap → KeptBut o b.kept c.kept → cause_in c.kept o ≡ cause_in b.kept o → IsLinkedNow went b o proto c
+    slow-linked b c o proto d slow none steps heap others same =
         let was : cause_in b.kept o ≡ Some d.cause = ap (λ (x : Option Dictionary). option_map (λ y. y.cause) x) slow in
         record {
           steps = steps;
@@ -243,15 +245,15 @@ module _ {P : Type 0} where
           needs = within-same (link_need b.heap.view.trail o proto b.of_null) b.heap.view.used c.heap.view.used (ap (λ (h : HeapState P). h.view.used) heap);
           protos = λ q. ap (λ (h : HeapState P). (root_in h.view.trail q).is_proto) heap;
           others = others;
-          starts = words-start b.heap.view.trail c.heap.view.trail o (ap (λ (h : HeapState P). h.view.trail) heap);
+          relinks = marks-relink b.heap.view.trail c.heap.view.trail o proto (ap (λ (h : HeapState P). map_in h.view.trail o) heap ∙ none) (words-same b.heap.view.trail c.heap.view.trail o (ap (λ (h : HeapState P). h.view.trail) heap));
         }
 
     -- a fast one left its map, and got it
     pub left-linked : ((p q r : P) (first second third : List Access) → went p first second q → went q second third r → went p first third r) → (a b c : ObjectsState P) (o : ℕ) (proto : Option ℕ) (d : Dictionary)
         → kept_of a.kept o ≡ None → (HasSpace a.heap.view (link_need a.heap.view.trail o proto a.of_null) → ⊥) → d.cause ≡ Space
-        → Steps went a Moved b → cause_in b.kept o ≡ Some d.cause → KeptBut o a.kept b.kept → b.heap.view.used ≡ a.heap.view.used → ((q : ℕ) → root_in b.heap.view.trail q ≡ root_in a.heap.view.trail q) → Marks a.heap.view.trail b.heap.view.trail o
+        → Steps went a Moved b → cause_in b.kept o ≡ Some d.cause → KeptBut o a.kept b.kept → b.heap.view.used ≡ a.heap.view.used → ((q : ℕ) → root_in b.heap.view.trail q ≡ root_in a.heap.view.trail q) → Marks a.heap.view.trail b.heap.view.trail o → map_in b.heap.view.trail o ≡ None
         → Steps went b (Linked o proto) c → c.heap ≡ b.heap → KeptBut o b.kept c.kept → cause_in c.kept o ≡ cause_in b.kept o → IsLinkedNow went a o proto c
-    left-linked law a b c o proto d fast full space moved cause others used roots marks steps heap later same =
+    left-linked law a b c o proto d fast full space moved cause others used roots marks none steps heap later same =
         let now : cause_in c.kept o ≡ Some Space = same ∙ cause ∙ ap (λ (x : Cause). Some x) space in
         record {
           steps = steps-on went law a b c (Linked o proto) moved steps;
@@ -260,5 +262,5 @@ module _ {P : Type 0} where
           needs = within-same (link_need a.heap.view.trail o proto a.of_null) a.heap.view.used c.heap.view.used (ap (λ (h : HeapState P). h.view.used) heap ∙ used);
           protos = λ q. ap (λ (h : HeapState P). (root_in h.view.trail q).is_proto) heap ∙ ap (λ r. r.is_proto) (roots q);
           others = but-on o a.kept b.kept c.kept others later;
-          starts = subst (λ (h : HeapState P). StartsByMark a.heap.view.trail h.view.trail o) (sym heap) (marks-start a.heap.view.trail b.heap.view.trail o marks);
+          relinks = subst (λ (h : HeapState P). Relinks a.heap.view.trail h.view.trail o proto) (sym heap) (marks-relink a.heap.view.trail b.heap.view.trail o proto none marks);
         }

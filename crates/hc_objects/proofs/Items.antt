@@ -1,7 +1,8 @@
 -- The items that are kept, one for each object.
 use Rattle.std.proofs.Common.{◌≡◌, ◌≢◌, ℕ, zero, suc, ◌+◌, ◌<◌, ◌≤◌, List, [], ◌∷◌, ◌++◌, Option, None, length, set, take, refl, ap, subst, arith, length-append}
 use Rattle.std.proofs.lemmas.List.{length-set}
-use Rattle.hc_objects.specs.Meaning.{Dictionary, kept_of}
+use Rattle.hc_slots.specs.Meaning.{Dictionary}
+use Rattle.hc_objects.specs.Meaning.{kept_of}
 use Rattle.hc_objects.specs.Changes.{KeptBut}
 
 pub kept-same : (o : ℕ) (kept : List (Option Dictionary)) → KeptBut o kept kept

@@ -11,36 +11,38 @@ use Rattle.hc_value.specs.declared.field.Rep.TheVariants.{Tagged}
 use Rattle.hc_value.specs.declared.key.Key.{Key}
 use Rattle.hc_value.specs.declared.prop.Prop.{Prop}
 use Rattle.hc_heap.specs.Writes.{Write, Trail, ObjectMap, Store, Slot}
-use Rattle.hc_heap.specs.Readings.{gate_in, bits_in, map_in, root_in}
+use Rattle.hc_heap.specs.Readings.{gate_in, bits_in, detail_in, map_in, root_in}
 use Rattle.hc_heap.specs.Lawful.{Lawful, LawfulObjectMap, HoldsEntries, IsFormOf}
 use Rattle.hc_heap.specs.Kept.{Adds, DetailsRise, UnusedSaysNothing, GoesOn}
 use Rattle.hc_heap.specs.Frames.{same-after, adds-on, adds-one, adds-wider, goes-on-of}
 use Rattle.hc_heap.specs.States.{View, IsHeap, with_write}
-use Rattle.hc_descs.specs.Entries.{field_at}
-use Rattle.hc_tree.specs.Tree.{IsTree, gate_with, tagged_field}
+use Rattle.hc_descs.specs.Entries.{field_at, detail_of}
+use Rattle.hc_tree.specs.Tree.{IsTree, gate_with}
 use Rattle.hc_tree.specs.Kept.{MapsAreKept, TreesStay, TreeIsSame}
-use Rattle.hc_tree.specs.Copying.{detail_of}
-use Rattle.hc_objects.specs.Meaning.{held_in, slot_word}
-use Rattle.hc_objects.specs.State.{IsFast}
+use Rattle.hc_slots.specs.Meaning.{held_in, slot_word}
+use Rattle.hc_slots.specs.Fast.{IsFast}
+use Rattle.hc_objects.specs.Admitting.{IsGrownBy}
 use Rattle.hc_objects.specs.Changes.{Touches, IsGrown, key_of}
-use Rattle.hc_objects.specs.Filling.{FillsStore, IsFitted, IsMoved}
+use Rattle.hc_value.specs.declared.field.Detail.{Detail}
+use Rattle.hc_objects.proofs.Rising.{form-between, not-wide}
+use Rattle.hc_slots.specs.Slots.{FillsStore, IsFitted}
+use Rattle.hc_objects.specs.Filling.{IsMoved}
 use Rattle.hc_objects.specs.Rest.{MarksAt}
 use Rattle.hc_objects.proofs.Holding.{holds-grown}
 use Rattle.hc_objects.proofs.Marking.{fills-at, marked-already, other-gate}
 use Rattle.hc_objects.proofs.Owning.{open-used}
-use Rattle.hc_objects.proofs.Rising.{not-both}
-use Rattle.hc_objects.proofs.Sound.{some-is}
+use Rattle.hc_slots.specs.Cases.{not-both, some-is}
 use Rattle.hc_objects.proofs.Sparing.{kept-after}
 use Rattle.hc_objects.proofs.Staying.{IsLater, later, proto-stays}
 use Rattle.hc_objects.proofs.Touching.{map-moved}
 
-detail-tagged : (a b : Trail) → IsLater a b → (f : Option ℕ) → detail_of a f ≡ Some tagged_field → detail_of b f ≡ Some tagged_field
-detail-tagged a b after (Some f) e = after.maps.tagged f e
-detail-tagged a b after None e = let n : ⊥ = cc in absurd n
+detail-same : (a b : Trail) → ((f : ℕ) → detail_in b f ≡ detail_in a f) → (f : Option ℕ) → detail_of b f ≡ detail_of a f
+detail-same a b same (Some f) = same f
+detail-same a b same None = refl
 
 -- a map that has one entry more keeps it
-pub grown-later : (a b : Trail) → IsLater a b → (m c n : ℕ) (g : GateWord) (key : Key) → gate_in a m ≡ Some g → g.entries ≡ n → IsGrown a m c n key tagged_field → IsGrown b m c n key tagged_field
-grown-later a b after m c n g key is count grown =
+pub grown-later : (a b : Trail) → IsLater a b → ((f : ℕ) → detail_in b f ≡ detail_in a f) → (m c n : ℕ) (g : GateWord) (key : Key) (d : Detail) → gate_in a m ≡ Some g → g.entries ≡ n → IsGrown a m c n key d → IsGrown b m c n key d
+grown-later a b after same m c n g key d is count grown =
     let last : n < grown.gate.entries = omega (arith, grown.count) in
     let end = after.maps.entry c n grown.gate grown.is_open last in
     record {
@@ -60,7 +62,7 @@ grown-later a b after m c n g key is count grown =
             (after.maps.entry c k grown.gate grown.is_open in_c).field ∙ grown.entries.fields k lt ∙ sym (after.maps.entry m k g is in_m).field;
       };
       last = end.key ∙ grown.last;
-      admits = ap (detail_of b) end.field ∙ detail-tagged a b after (field_at a c n) grown.admits;
+      admits = ap (detail_of b) end.field ∙ detail-same a b same (field_at a c n) ∙ grown.admits;
     }
 
 -- What filling leaves as it was
@@ -75,6 +77,11 @@ module _ (old : View) (o : ℕ) where
   bits-by m t (Store p v) e = refl
   bits-by m t (Slot s v) e = refl
   bits-by m t _ e = absurd e
+
+  pub detail-by : (f : ℕ) (t : Trail) (w : Write) → FillsStore old o t w → detail_in (w ∷ t) f ≡ detail_in t f
+  detail-by f t (Store p v) e = refl
+  detail-by f t (Slot s v) e = refl
+  detail-by f t _ e = absurd e
 
   pub map-by : (p : ℕ) (t : Trail) (w : Write) → FillsStore old o t w → map_in (w ∷ t) p ≡ map_in t p
   map-by p t (Store q v) e = refl
@@ -99,7 +106,7 @@ module _ (old : View) (o : ℕ) where
 -- an object's slot is filled, and it comes to a map with one entry more
 module _ (maps : MapsAreKept) (details : DetailsRise) (trees : TreesStay) (unused : UnusedSaysNothing) (v w : View) (o m c n x : ℕ) (p : Prop) (heap : IsHeap v) (filled : IsHeap w) (fitted : IsFitted v w o n)
     (has : map_in v.trail o ≡ Some m) (unstable : IsTrue (bits_in v.trail m).unstable) (is_open : gate_in v.trail m ≡ Some (gate_with n false)) (holds : HoldsEntries v.trail o m (gate_with n false))
-    (shared : (root_in v.trail o).is_proto ≡ false) (child : gate_in v.trail c ≡ Some (gate_with (n + 1) false)) (grown : IsGrown v.trail m c n (key_of p) tagged_field)
+    (shared : (root_in v.trail o).is_proto ≡ false) (child : gate_in v.trail c ≡ Some (gate_with (n + 1) false)) (by : IsGrownBy v.trail m c n p)
     (last : slot_word w.trail o n ≡ x) (form : IsFormOf (kind_of p.held) Tagged x) (is : held_in (kind_of p.held) Tagged x ≡ p.held) where
   lawful-later : Lawful v.shape w.trail
   lawful-later = subst (λ (s : Shape). Lawful s w.trail) fitted.shape filled.lawful
@@ -110,8 +117,11 @@ module _ (maps : MapsAreKept) (details : DetailsRise) (trees : TreesStay) (unuse
   fast : IsFast v.trail o m (gate_with n false)
   fast = record { is_open = is_open; holds = holds; private = sym shared }
 
-  grown-there : IsGrown w.trail m c n (key_of p) tagged_field
-  grown-there = grown-later v.trail w.trail is-after m c n (gate_with n false) (key_of p) is_open refl grown
+  details-same : (f : ℕ) → detail_in w.trail f ≡ detail_in v.trail f
+  details-same f = same-after (λ (t : Trail). detail_in t f) (detail-by v o f) fitted.writes
+
+  grown-there : IsGrown w.trail m c n (key_of p) by.detail
+  grown-there = grown-later v.trail w.trail is-after details-same m c n (gate_with n false) (key_of p) by.detail is_open refl by.grown
 
   form-there : IsFormOf (kind_of p.held) Tagged (slot_word w.trail o n)
   form-there = subst (λ (y : ℕ). IsFormOf (kind_of p.held) Tagged y) (sym last) form
@@ -132,7 +142,7 @@ module _ (maps : MapsAreKept) (details : DetailsRise) (trees : TreesStay) (unuse
           let most = heap.most Maps in
           subst (λ (s : Shape). c < s.maps) (sym fitted.shape) (omega (arith, used, most));
       filled = subst (λ (g : Option GateWord). IsSomeAnd g (λ y. HoldsEntries w.trail o c y)) (sym grown-there.is_open)
-          (holds-grown v.trail w.trail is-after o m (gate_with n false) fast c (key_of p) tagged_field grown-there fitted.room fitted.words form-there);
+          (holds-grown v.trail w.trail is-after o m (gate_with n false) fast c (key_of p) by.detail grown-there fitted.room fitted.words (form-between (kind_of p.held) Tagged by.detail.rep (slot_word w.trail o n) not-wide by.narrow form-there));
       own = λ is_proto. absurd (true≢false (sym is_proto ∙ ap (λ (r : RootWord). r.is_proto) root-same ∙ shared));
     };
   }
@@ -159,8 +169,8 @@ module _ (maps : MapsAreKept) (details : DetailsRise) (trees : TreesStay) (unuse
         let same : TreeIsSame v.trail w.trail = kept-after (λ (t : Trail). TreeIsSame v.trail t) (tree-by v o v.trail) fitted.writes (record { links = λ k. refl; gates = λ k. refl; lives = λ k. refl; roots = λ k. refl; details = λ f. refl; arrays = λ n. refl; bases = λ n. refl; keys = λ e. refl; references = λ e. refl }) in
         record { links = same.links; gates = same.gates; lives = same.lives; roots = same.roots; details = same.details; arrays = same.arrays; bases = same.bases; keys = same.keys; references = same.references }
 
-    grown-then : IsGrown new.trail m c n (key_of p) tagged_field
-    grown-then = grown-later v.trail new.trail after m c n (gate_with n false) (key_of p) is_open refl grown
+    grown-then : IsGrown new.trail m c n (key_of p) by.detail
+    grown-then = grown-later v.trail new.trail after details-same m c n (gate_with n false) (key_of p) by.detail is_open refl by.grown
 
     pub move-made : IsTree v.trail → IsMoved v (with_write w (ObjectMap o (Some c))) o m n p
     move-made tree = record {
@@ -173,6 +183,8 @@ module _ (maps : MapsAreKept) (details : DetailsRise) (trees : TreesStay) (unuse
         heap = moved_heap;
       };
       opens = λ k g none gate private parent. not-both (gate_in v.trail k) g none (sym (tree-same.gates k) ∙ gate);
+      detail = by.detail;
+      narrow = by.narrow;
       grown = grown-then;
       shared = ap (λ (g : GateWord). g.is_private) (some-is grown-then.gate (gate_with (n + 1) false) (sym grown-then.is_open ∙ tree-same.gates c ∙ child));
       moved = ap (λ (b : Bool). cond b (Some c) (map_in w.trail o)) (eq-eqb o o refl);

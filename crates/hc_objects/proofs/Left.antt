@@ -1,9 +1,6 @@
 -- A fast object that leaves its map for a dictionary, as what objects are before and after it.
-use Rattle.std.proofs.Common.{◌≡◌, ◌≢◌, ℕ, zero, suc, ◌<◌, ◌≤◌, Bool, true, false, cond, List, [], ◌∷◌, Option, Some, None, length, set, refl, sym, ap, ◌∙◌, subst, arith}
-use Rattle.std.specs.List.{AllByRecursion}
+use Rattle.std.proofs.Common.{◌≡◌, ℕ, zero, suc, ◌<◌, ◌≤◌, Bool, true, false, cond, List, [], ◌∷◌, Option, Some, None, length, set, refl, sym, ap, ◌∙◌, subst, arith}
 use Rattle.hc_board.specs.Trail.{Access}
-use Rattle.hc_board.specs.States.{WriterState}
-use Rattle.hc_value.specs.declared.prop.Prop.{Prop}
 use Rattle.hc_layout.specs.declared.words.MapBits.{MapBits}
 use Rattle.hc_heap.specs.Writes.{Trail, Bits, ObjectMap}
 use Rattle.hc_heap.specs.Readings.{bits_in, map_in, root_in}
@@ -13,16 +10,14 @@ use Rattle.hc_heap.specs.States.{View, HeapState, IsHeap, Goes, one_load}
 use Rattle.hc_tree.specs.Growth.{marked, IsUnmoved}
 use Rattle.hc_tree.specs.Kept.{MapsAreKept, TreesStay}
 use Rattle.hc_tree.specs.Tree.{IsTree}
-use Rattle.hc_table.specs.Attributes.{IsProper}
 use Rattle.hc_table.specs.Kept.{IsKept, with_world}
-use Rattle.hc_table.specs.World.{Object, World, object, place_of, HaveDistinctNames}
-use Rattle.hc_objects.specs.Listed.{listed}
-use Rattle.hc_objects.specs.Meaning.{Dictionary, dictionary_object, kept_of, object_shown, world}
-use Rattle.hc_objects.specs.State.{HasMap, IsObjects, tables_of}
+use Rattle.hc_table.specs.World.{Object, World, object}
+use Rattle.hc_slots.specs.Meaning.{Dictionary, dictionary_object, object_shown}
+use Rattle.hc_objects.specs.Meaning.{kept_of, world}
+use Rattle.hc_slots.specs.Fast.{HasMap}
+use Rattle.hc_objects.specs.State.{IsObjects, tables_of}
 use Rattle.hc_objects.specs.Changes.{Stepped}
-use Rattle.hc_objects.proofs.Adding.{place-absent, map-is}
-use Rattle.hc_objects.proofs.Fetching.{place-none, all-at}
-use Rattle.hc_objects.proofs.Listed.{slice_get-listed}
+use Rattle.hc_objects.proofs.Adding.{map-is}
 use Rattle.hc_objects.proofs.Operations.{left-step}
 use Rattle.hc_objects.proofs.Owning.{open-used}
 use Rattle.hc_objects.proofs.Stepping.{stepped-world, stepped-sound}
@@ -32,35 +27,14 @@ use Rattle.hc_objects.proofs.Writing.{has-map}
 -- A heap that was only read
 
 module _ {P : Type 0} where
-  pub unmoved-of : (a b : HeapState P) → b ≡ record a { desk = b.desk } → b.desk ≡ record a.desk { loads = b.desk.loads } → IsUnmoved a b
-  unmoved-of a b new is = new ∙ ap (λ (d : WriterState). let s : HeapState P = record a { desk = d } in s) is
-
   pub unmoved-one : (a b : HeapState P) → b ≡ record a { desk = one_load a.desk } → IsUnmoved a b
   unmoved-one a b is = is ∙ ap (λ (n : ℕ). let s : HeapState P = record a { desk = record a.desk { loads = n } } in s) (sym (ap (λ (s : HeapState P). s.desk.loads) is))
-
-  pub unmoved-on : (a b c : HeapState P) → IsUnmoved a b → IsUnmoved b c → IsUnmoved a c
-  unmoved-on a b c x y = y ∙ ap (λ (s : HeapState P). let r : HeapState P = record s { desk = record s.desk { loads = c.desk.loads } } in r) x
 
   pub unmoved-goes : (a b : HeapState P) → IsUnmoved a b → a.desk.loads ≤ b.desk.loads → Goes a.desk b.desk
   unmoved-goes a b is le = subst (λ (s : HeapState P). Goes a.desk s.desk) (sym is) (record { board = refl; trail = extends-none a.desk.trail; loads = le; met = extends-none a.desk.met })
 
   pub unmoved-went : (went : P → List Access → List Access → P → Type 0) → ((p : P) (t : List Access) → went p t t p) → (a b : HeapState P) → IsUnmoved a b → went a.pace a.desk.trail b.desk.trail b.pace
   unmoved-went went stays a b is = subst (λ (s : HeapState P). went a.pace a.desk.trail s.desk.trail s.pace) (sym is) (stays a.pace a.desk.trail)
-
--- Names of listed properties
-
-names-differ : (f : ℕ → Prop) (n j k : ℕ) → HaveDistinctNames (listed f n) → j < k → k < n → (f j).name ≢ (f k).name
-names-differ f zero j k h jk kn = absurd (omega arith)
-names-differ f (suc n) j zero h jk kn = absurd (omega arith)
-names-differ f (suc n) zero (suc k) h jk kn = λ e. place-absent (λ i. f (suc i)) n k (f 0).name (omega arith) h.0 (sym e)
-names-differ f (suc n) (suc j) (suc k) h jk kn = names-differ (λ i. f (suc i)) n j k h.1 (omega arith) (omega arith)
-
--- the name of a property is none of those before it
-pub name-new : (f : ℕ → Prop) (n k : ℕ) → HaveDistinctNames (listed f n) → k < n → place_of (listed f k) (f k).name ≡ None
-name-new f n k h kn = place-none f k (f k).name (λ j jk. names-differ f n j k h jk kn)
-
-pub proper-at : (f : ℕ → Prop) (n k : ℕ) → AllByRecursion IsProper (listed f n) → k < n → IsProper (f k)
-proper-at f n k all kn = all-at IsProper (listed f n) k (f k) all (slice_get-listed f n k kn)
 
 -- an object that stays the same
 pub set-object : (w : World) (o : ℕ) (x : Object) → o < length w → object w o ≡ x → set w o x ≡ w

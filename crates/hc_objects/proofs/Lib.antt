@@ -1,4 +1,3 @@
-pub mod Listed
 pub mod GoingOn
 pub mod Rising
 pub mod Staying
@@ -16,15 +15,9 @@ pub mod Sharing
 pub mod Steps
 pub mod Stepping
 pub mod Operations
-pub mod Copying
-pub mod Moving
-pub mod Reading
-pub mod Moved
 pub mod Places
 pub mod Writing
-pub mod Fetching
 pub mod Shown
-pub mod Fitting
 pub mod Joining
 pub mod Childed
 pub mod Needing
@@ -33,7 +26,6 @@ pub mod Creating
 pub mod Slowed
 pub mod Left
 pub mod Composing
-pub mod Restricting
 pub mod Adds
 pub mod OneMap
 pub mod Altering
@@ -55,5 +47,7 @@ pub mod Likeness
 pub mod Relinked
 pub mod Linked
 pub mod Unstable
+pub mod Admitted
 pub mod Inherited
 pub mod Spending
+pub mod Calm

@@ -18,10 +18,13 @@ use Rattle.hc_tree.specs.Needs.{HasSpace}
 use Rattle.hc_table.specs.Changes.{IsThere, Linked, reaches, with_link, with_proto}
 use Rattle.hc_table.specs.Kept.{ChangesKeep}
 use Rattle.hc_table.specs.World.{Object, World, object}
-use Rattle.hc_objects.specs.Meaning.{Dictionary, kept_of, object_shown, object_at, world}
+use Rattle.hc_slots.specs.Meaning.{Dictionary, object_shown}
+use Rattle.hc_objects.specs.Meaning.{kept_of, object_at, world}
 use Rattle.hc_objects.specs.Came.{world_of}
-use Rattle.hc_objects.specs.State.{ObjectsState, AreHandedOut, AreRoots, IsFast, IsIn, IsObjects, tables_of}
-use Rattle.hc_objects.specs.Changes.{IsWell, KeptBut, SlotsStay}
+use Rattle.hc_objects.specs.State.{ObjectsState, AreRoots, IsObjects, tables_of}
+use Rattle.hc_slots.specs.Slots.{AreHandedOut, IsIn, SlotsStay}
+use Rattle.hc_slots.specs.Fast.{IsFast}
+use Rattle.hc_objects.specs.Changes.{IsWell, KeptBut}
 use Rattle.hc_objects.specs.Linking.{IsRelinked, shared_need}
 use Rattle.hc_objects.specs.Modes.{IsWithin, both, link_need, need_by, walk_need}
 use Rattle.hc_objects.proofs.Adding.{its-gate, map-is}
@@ -29,7 +32,8 @@ use Rattle.hc_objects.proofs.Likeness.{like-holds, like-object}
 use Rattle.hc_objects.proofs.Needing.{within-same}
 use Rattle.hc_objects.proofs.Operations.{object-fast}
 use Rattle.hc_objects.proofs.Shown.{within}
-use Rattle.hc_objects.proofs.Sound.{is-later, others-same, some-is, sound-after, tables-after}
+use Rattle.hc_objects.proofs.Sound.{is-later, others-same, sound-after, tables-after}
+use Rattle.hc_slots.specs.Cases.{some-is}
 use Rattle.hc_objects.proofs.Worlds.{length-world, world-set}
 use Rattle.hc_objects.proofs.Writing.{has-map}
 

@@ -14,9 +14,11 @@ use Rattle.hc_tree.specs.Tree.{gate_with}
 use Rattle.hc_table.specs.Changes.{IsThere, Linked, reaches, with_link, with_proto}
 use Rattle.hc_table.specs.Kept.{ChangesKeep}
 use Rattle.hc_table.specs.World.{Object, object}
-use Rattle.hc_objects.specs.Meaning.{Dictionary, kept_of, world}
+use Rattle.hc_slots.specs.Meaning.{Dictionary}
+use Rattle.hc_objects.specs.Meaning.{kept_of, world}
 use Rattle.hc_objects.specs.Came.{world_of}
-use Rattle.hc_objects.specs.State.{HasMap, IsObjects, ObjectsState, tables_of}
+use Rattle.hc_slots.specs.Fast.{HasMap}
+use Rattle.hc_objects.specs.State.{IsObjects, ObjectsState, tables_of}
 use Rattle.hc_objects.specs.Changes.{Stepped}
 use Rattle.hc_objects.specs.Privates.{IsMovedToCopy}
 use Rattle.hc_objects.proofs.Adding.{gate-is, its-gate, map-is}

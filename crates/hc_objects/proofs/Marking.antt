@@ -5,14 +5,14 @@ use Rattle.hc_objects.specs.State.{ObjectsState}
 use Rattle.hc_objects.specs.Laws.{with_loads}
 use Rattle.hc_objects.specs.Becoming.{IsOwned, with_proto}
 use Rattle.std.proofs.Common.{◌≡◌, ◌≢◌, ℕ, ◌+◌, Bool, true, false, cond, eq-eqb, true≢false, List, [], ◌∷◌, ◌++◌, Option, Some, None, refl, sym, ap, ◌∙◌, subst, arith}
-use Rattle.std.specs.Prelude.{◌⊎◌, IsTrue}
+use Rattle.std.specs.Prelude.{◌⊎◌, IsTrue, ⊤}
 use Rattle.hc_layout.specs.declared.shape.Shape.{Shape}
 use Rattle.hc_layout.specs.declared.words.GateWord.{GateWord}
 use Rattle.hc_layout.specs.declared.words.MapBits.{MapBits}
 use Rattle.hc_layout.specs.declared.words.RootWord.{RootWord}
 use Rattle.hc_value.specs.declared.prop.Prop.{Prop}
 use Rattle.hc_heap.specs.Writes.{Write, Trail, Bits, ObjectMap, Root}
-use Rattle.hc_heap.specs.Readings.{gate_in, bits_in, map_in, root_in}
+use Rattle.hc_heap.specs.Readings.{gate_in, bits_in, map_in, prototype_in, root_in}
 use Rattle.hc_heap.specs.Kept.{Adds}
 use Rattle.hc_heap.specs.Frames.{adds-one, same-after}
 use Rattle.hc_heap.specs.States.{View}
@@ -22,11 +22,12 @@ use Rattle.hc_tree.specs.Tree.{gate_with}
 use Rattle.hc_table.specs.Changes.{Did, Nothing, Moved, Created, Added, Wrote, Reconfigured, Removed, Linked, Locked, Restricted}
 use Rattle.hc_objects.specs.Came.{MarksOf, HasOwnCopy, HowBecame, IsStill}
 use Rattle.hc_objects.specs.Changes.{Changed, Touches}
-use Rattle.hc_objects.specs.Filling.{FillsStore, IsMoved}
-use Rattle.hc_objects.specs.Privates.{IsGrownAlone}
-use Rattle.hc_objects.specs.Rest.{BeginsByMark, HasGone, Marks, MarksAt, StartsByMark}
-use Rattle.hc_objects.proofs.Sound.{same-or, some-is}
-use Rattle.hc_objects.proofs.Sparing.{cond-other}
+use Rattle.hc_slots.specs.Slots.{FillsStore}
+use Rattle.hc_objects.specs.Filling.{IsMoved}
+use Rattle.hc_objects.specs.Linking.{IsRelinked}
+use Rattle.hc_objects.specs.Privates.{IsGrownAlone, IsMovedToCopy}
+use Rattle.hc_objects.specs.Rest.{BeginsByMark, HadProto, HasGone, Marks, MarksAt, Relinks}
+use Rattle.hc_slots.specs.Cases.{same-or, some-is, cond-other}
 use mathlib.Core.Logic.{inl, inr}
 
 -- Classes of writes
@@ -60,7 +61,7 @@ mark t m = record { unstable = true; deprecated = (bits_in t m).deprecated }
 pub marked-already : (t : Trail) (m : ℕ) → IsTrue (bits_in t m).unstable → marked t m ≡ t
 marked-already t m unstable = ap (λ (b : Bool). cond b t (Bits m (mark t m) ∷ t)) unstable
 
-bits-marked : (t : Trail) (m x : ℕ) → x ≢ m → bits_in (marked t m) x ≡ bits_in t x
+pub bits-marked : (t : Trail) (m x : ℕ) → x ≢ m → bits_in (marked t m) x ≡ bits_in t x
 bits-marked t m x other = by (bits_in t m).unstable
   where
     by : (b : Bool) → bits_in (cond b t (Bits m (mark t m) ∷ t)) x ≡ bits_in t x
@@ -144,8 +145,34 @@ left-marks old new o m h is has other fine = subst (λ (v : View). Marks old.tra
     own (inl shared) x e proto = absurd (true≢false (sym proto ∙ ap (λ (r : RootWord). r.is_proto) (same-marked (λ (t : Trail). root_in t o) (λ b. refl)) ∙ shared))
     own (inr none) x e proto = let f : None ≡ Some x = sym none ∙ sym here ∙ e in let g : ⊥ = cc in absurd g
 
--- an operation on an object that marks its map first
-pub starts-by : (old new : Trail) (o m : ℕ) (more : List Write) → map_in old o ≡ Some m → new ≡ more ++ marked old m → ((q : ℕ) → q ≢ o → map_in new q ≡ map_in old q) → StartsByMark old new o
+-- an object with a private map that gets another prototype comes to a new one
+pub copied-relink : (v w : View) (o m n : ℕ) (proto : Option ℕ) → map_in v.trail o ≡ Some m → IsMovedToCopy false v w o m n proto → Relinks v.trail w.trail o proto
+copied-relink v w o m n proto has it = record {
+  marks = λ x stable unstable. by x (marks.marks x stable unstable);
+  first = marks.first;
+  maps = marks.maps;
+  own = λ x is has. stays x is;
+}
+  where
+    stays : (x : ℕ) → map_in w.trail o ≡ Some x → (bits_in w.trail x).unstable ≡ false
+    stays x is = subst (λ (k : ℕ). (bits_in w.trail k).unstable ≡ false) (some-is v.used.maps x (sym it.moved ∙ is)) it.stable
+
+    marks : Marks v.trail w.trail o
+    marks = moved-marks v.trail w.trail o m has it.after
+        (λ is. let same : v.used.maps ≡ m = some-is v.used.maps m (sym it.moved ∙ is) in omega (arith, same, it.younger))
+        (maps-kept v w o it.changed)
+        (λ x is proto. stays x is)
+
+    by : (x : ℕ) → (links_in w.trail x ≢ []) ⊎ HasGone v.trail w.trail o x → (links_in w.trail x ≢ []) ⊎ (HasGone v.trail w.trail o x ⊎ HadProto v.trail o x proto)
+    by x (inl links) = inl links
+    by x (inr gone) = inr (inl gone)
+
+-- an operation on an object that left a stable map made that unstable by the first write of all; other objects keep their maps
+record StartsByMark (old new : Trail) (o : ℕ) : Type 0 where
+  pub first : (m : ℕ) → HasGone old new o m → (bits_in old m).unstable ≡ false → BeginsByMark old new m
+  pub maps : (q : ℕ) → q ≢ o → map_in new q ≡ map_in old q
+
+starts-by : (old new : Trail) (o m : ℕ) (more : List Write) → map_in old o ≡ Some m → new ≡ more ++ marked old m → ((q : ℕ) → q ≢ o → map_in new q ≡ map_in old q) → StartsByMark old new o
 starts-by old new o m more has is maps = record {
   first = λ x left stable.
       let same : x ≡ m = some-is x m (sym left.was ∙ has) in
@@ -156,25 +183,56 @@ starts-by old new o m more has is maps = record {
     begins : (bits_in old m).unstable ≡ false → BeginsByMark old new m
     begins stable = record { more = more; is = is ∙ ap (λ (b : Bool). more ++ cond b old (Bits m (mark old m) ∷ old)) stable }
 
--- what an operation marks says what it begins with
-pub marks-start : (old new : Trail) (o : ℕ) → Marks old new o → StartsByMark old new o
-marks-start old new o h = record { first = h.first; maps = h.maps }
+-- one with a shared map comes to the map with the same keys, which is the one that it had only where that has the prototype
+pub shared-relink : (v w : View) (null then_null : Option ℕ) (o m n : ℕ) (proto : Option ℕ) → map_in v.trail o ≡ Some m → (root_in v.trail o).is_proto ≡ false → ((c : ℕ) → c ≡ m → prototype_in w.trail c ≡ Some proto → prototype_in v.trail m ≡ Some proto)
+    → IsRelinked v w null then_null o m n proto → Relinks v.trail w.trail o proto
+shared-relink v w null then_null o m n proto has shared before it = record {
+  marks = λ x stable unstable. same-or x m ((links_in w.trail x ≢ []) ⊎ (HasGone v.trail w.trail o x ⊎ HadProto v.trail o x proto))
+      (λ is. inr (subst (λ (k : ℕ). HasGone v.trail w.trail o k ⊎ HadProto v.trail o k proto) (sym is) left))
+      (λ other. inl (it.marks x other stable unstable));
+  first = start.first;
+  maps = start.maps;
+  own = λ x is proto. absurd (true≢false (sym proto ∙ it.protos o ∙ shared));
+}
+  where
+    left : HasGone v.trail w.trail o m ⊎ HadProto v.trail o m proto
+    left = same-or it.map m (HasGone v.trail w.trail o m ⊎ HadProto v.trail o m proto)
+        (λ is. inr (record { was = has; prototype = before it.map is it.like.prototype }))
+        (λ other. inl (record { was = has; now = λ is. other (some-is it.map m (sym it.moved ∙ is)) }))
 
-pub words-start : (old new : Trail) (o : ℕ) → new ≡ old → StartsByMark old new o
-words-start old new o same = marks-start old new o (words-same old new o same)
+    start : StartsByMark v.trail w.trail o
+    start = starts-by v.trail w.trail o m it.more has it.after (maps-kept v w o it.changed)
 
--- an operation after which the words are as they were
-pub words-marks : (old new : Trail) (did : Did) → new ≡ old → MarksOf did old new
-words-marks old new Nothing same = tt
-words-marks old new Moved same = tt
-words-marks old new (Created proto) same = tt
-words-marks old new (Added o p) same = words-same old new o same
-words-marks old new (Wrote o i held) same = words-same old new o same
-words-marks old new (Reconfigured o i p) same = words-same old new o same
-words-marks old new (Removed o i) same = words-same old new o same
-words-marks old new (Linked o proto) same = words-start old new o same
-words-marks old new (Locked o) same = words-same old new o same
-words-marks old new (Restricted o frozen) same = words-same old new o same
+-- an object that had no map, or has none now, gets another prototype
+pub marks-relink : (old new : Trail) (o : ℕ) (proto : Option ℕ) → map_in new o ≡ None → Marks old new o → Relinks old new o proto
+marks-relink old new o proto none h = record {
+  marks = λ m stable unstable. by m (h.marks m stable unstable);
+  first = h.first;
+  maps = h.maps;
+  own = λ m is has. let f : None ≡ Some m = sym none ∙ is in let g : ⊥ = cc in absurd g;
+}
+  where
+    by : (m : ℕ) → (links_in new m ≢ []) ⊎ HasGone old new o m → (links_in new m ≢ []) ⊎ (HasGone old new o m ⊎ HadProto old o m proto)
+    by m (inl links) = inl links
+    by m (inr gone) = inr (inl gone)
+
+-- an operation on one object after which the words are as they were
+abbrev pub IsOfOne : Did → Type 0
+IsOfOne (Created proto) = ⊥
+IsOfOne (Linked o proto) = ⊥
+IsOfOne _ = ⊤
+
+pub words-marks : (old new : Trail) (did : Did) → IsOfOne did → new ≡ old → MarksOf did old new
+words-marks old new Nothing one same = tt
+words-marks old new Moved one same = tt
+words-marks old new (Created proto) one same = absurd one
+words-marks old new (Added o p) one same = words-same old new o same
+words-marks old new (Wrote o i held) one same = words-same old new o same
+words-marks old new (Reconfigured o i p) one same = words-same old new o same
+words-marks old new (Removed o i) one same = words-same old new o same
+words-marks old new (Linked o proto) one same = absurd one
+words-marks old new (Locked o) one same = words-same old new o same
+words-marks old new (Restricted o frozen) one same = words-same old new o same
 
 -- Objects that become prototypes
 
@@ -183,6 +241,9 @@ owned-marks v w o m has it = moved-marks v.trail w.trail o m has it.after
     (λ is. let same : v.used.maps ≡ m = some-is v.used.maps m (sym it.moved ∙ is) in omega (arith, same, it.younger))
     (maps-kept v w o it.changed)
     (λ x is proto. subst (λ (k : ℕ). (bits_in w.trail k).unstable ≡ false) (some-is v.used.maps x (sym it.moved ∙ is)) it.stable)
+
+pub owned-own : (v w : View) (o m x : ℕ) → IsOwned v w o m → map_in w.trail o ≡ Some x → (bits_in w.trail x).unstable ≡ false
+owned-own v w o m x it is = subst (λ (k : ℕ). (bits_in w.trail k).unstable ≡ false) (some-is v.used.maps x (sym it.moved ∙ is)) it.stable
 
 pub owned-copy : (v w : View) (o m k : ℕ) → map_in v.trail o ≡ Some m → IsOwned v w o m → map_in v.trail o ≡ Some k → HasOwnCopy v w o k
 owned-copy v w o m k has it is = subst (λ (x : ℕ). HasOwnCopy v w o x) (some-is m k (sym has ∙ is)) (record { proto = it.proto; moved = it.moved; copy = it.copy })
@@ -205,6 +266,7 @@ module _ {P : Type 0} where
   pub how-still : (a b : ObjectsState P) (p : ℕ) → IsStill a b → IsTrue (root_in a.heap.view.trail p).is_proto → HowBecame a p b
   how-still a b p still is = record {
     marks = words-same a.heap.view.trail b.heap.view.trail p (ap (λ (s : ObjectsState P). s.heap.view.trail) still.is);
+    own = λ m has shared. absurd (true≢false (sym is ∙ shared));
     owns = λ m has shared fast. absurd (true≢false (sym is ∙ shared));
   }
 
@@ -212,11 +274,12 @@ module _ {P : Type 0} where
   how-before a b c p still h = by (subst (λ (s : ObjectsState P). HowBecame s p c) still.is h)
     where
       by : HowBecame (with_loads a b.heap.desk.loads) p c → HowBecame a p c
-      by k = record { marks = k.marks; owns = k.owns }
+      by k = record { marks = k.marks; own = k.own; owns = k.owns }
 
   -- a fast object left its map, and became one
   pub how-left : (a b c : ObjectsState P) (p : ℕ) (cause : Cause) → map_in b.heap.view.trail p ≡ None → Marks a.heap.view.trail b.heap.view.trail p → c.heap.view.trail ≡ with_proto b.heap.view.trail p → cause_in c.kept p ≡ Some cause → HowBecame a p c
   how-left a b c p cause none marks is slow = record {
     marks = subst (λ (t : Trail). Marks a.heap.view.trail t p) (sym is) (root-marks a.heap.view.trail b.heap.view.trail p none marks);
+    own = λ m has shared. let f : None ≡ Some m = sym none ∙ sym (ap (λ (t : Trail). map_in t p) is) ∙ has in let g : ⊥ = cc in absurd g;
     owns = λ m has shared fast. let f : None ≡ Some cause = sym fast ∙ slow in let g : ⊥ = cc in absurd g;
   }

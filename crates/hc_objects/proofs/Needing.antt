@@ -10,7 +10,8 @@ use Rattle.hc_tree.specs.declared.need.Need.{Need}
 use Rattle.hc_tree.specs.Growth.{child_need, live_child}
 use Rattle.hc_tree.specs.Needs.{HasSpace, no_need, with_need}
 use Rattle.hc_objects.specs.Changes.{key_of}
-use Rattle.hc_objects.specs.Filling.{MayGrowBy, slots_need, with_growth}
+use Rattle.hc_objects.specs.Filling.{MayGrowBy, with_growth}
+use Rattle.hc_slots.specs.Slots.{slots_need}
 use Rattle.hc_objects.specs.Modes.{IsNoLess, IsWithin, add_need, both, grown_need, need_by}
 
 -- a child takes no slots

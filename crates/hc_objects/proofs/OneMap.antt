@@ -11,22 +11,21 @@ use Rattle.hc_heap.specs.Readings.{gate_in, prototype_in, map_in}
 use Rattle.hc_heap.specs.Kept.{GatesAreOpen}
 use Rattle.hc_heap.specs.Lawful.{key_from, field_from}
 use Rattle.hc_heap.specs.States.{View}
-use Rattle.hc_descs.specs.Entries.{key_at, count_of}
-use Rattle.hc_tree.specs.Copying.{detail_at, detail_of}
+use Rattle.hc_descs.specs.Entries.{key_at, count_of, detail_at, detail_of}
 use Rattle.hc_table.specs.World.{Object, props_at}
-use Rattle.hc_objects.specs.Listed.{listed}
-use Rattle.hc_objects.specs.Meaning.{Dictionary, kept_of, prop_of, prop_in, proto_of, slot_word, world}
-use Rattle.hc_objects.specs.State.{ObjectsState, HasMap, IsKeptSo, IsObjects}
+use Rattle.hc_slots.specs.Listed.{listed, length-listed, listed-same, slice_get-listed}
+use Rattle.hc_slots.specs.Meaning.{Dictionary, prop_of, prop_in, proto_of, slot_word}
+use Rattle.hc_objects.specs.Meaning.{kept_of, world}
+use Rattle.hc_objects.specs.State.{ObjectsState, IsKeptSo, IsObjects}
+use Rattle.hc_slots.specs.Fast.{HasMap}
 use Rattle.hc_objects.specs.Changes.{key_of}
 use Rattle.hc_objects.specs.Came.{world_of}
 use Rattle.hc_objects.specs.Modes.{AreAlike}
 use Rattle.hc_objects.proofs.Composing.{no-cause}
-use Rattle.hc_objects.proofs.Listed.{length-listed, listed-same, slice_get-listed}
 use Rattle.hc_objects.proofs.Places.{held-kind}
-use Rattle.hc_objects.proofs.Reading.{entry-is}
-use Rattle.hc_objects.proofs.Rising.{some-of, not-both}
+use Rattle.hc_slots.specs.Entries.{entry-is}
+use Rattle.hc_slots.specs.Cases.{some-of, not-both, some-is}
 use Rattle.hc_objects.proofs.Sharing.{one-map}
-use Rattle.hc_objects.proofs.Sound.{some-is}
 use Rattle.hc_objects.proofs.Worlds.{length-world}
 use Rattle.hc_objects.proofs.Writing.{has-map, is-fast, props-are, count-is}
 

@@ -12,24 +12,24 @@ use Rattle.hc_heap.specs.Lawful.{IsFormOf, word_from}
 use Rattle.hc_heap.specs.Kept.{DetailsRise, UnusedSaysNothing}
 use Rattle.hc_heap.specs.Frames.{adds-on, goes-on-of}
 use Rattle.hc_heap.specs.States.{View, IsHeap, with_write}
-use Rattle.hc_descs.specs.Entries.{key_at}
+use Rattle.hc_descs.specs.Entries.{key_at, detail_at}
 use Rattle.hc_tree.specs.Tree.{IsTree}
 use Rattle.hc_tree.specs.Kept.{MapsAreKept, TreesStay}
 use Rattle.hc_tree.specs.Growth.{marked}
-use Rattle.hc_tree.specs.Copying.{detail_at}
 use Rattle.hc_table.specs.World.{with_list, held_at, object}
-use Rattle.hc_objects.specs.Meaning.{Dictionary, dictionary_object, held_in, kept_of, slot_word, fast_object, fast_props, object_shown, world}
-use Rattle.hc_objects.specs.State.{HasMap, IsIn, IsObjects, Owns, AreHandedOut}
-use Rattle.hc_objects.specs.Changes.{Changed, OpensNoRoot, Stepped, IsGrown, SlotsStay, property}
-use Rattle.hc_objects.proofs.Staying.{owns-index}
-use Rattle.hc_objects.proofs.Sparing.{cond-other}
+use Rattle.hc_slots.specs.Meaning.{Dictionary, dictionary_object, held_in, slot_word, fast_object, fast_props, object_shown}
+use Rattle.hc_objects.specs.Meaning.{kept_of, world}
+use Rattle.hc_slots.specs.Fast.{HasMap}
+use Rattle.hc_slots.specs.Slots.{IsIn, Owns, AreHandedOut, SlotsStay, owns-index}
+use Rattle.hc_objects.specs.State.{IsObjects}
+use Rattle.hc_objects.specs.Changes.{Changed, OpensNoRoot, Stepped, IsGrown, property}
+use Rattle.hc_slots.specs.Cases.{cond-other, not-both}
 use Rattle.hc_objects.proofs.Written.{prop-written, fast-written}
 use Rattle.hc_objects.proofs.Grown.{fast-grown}
 use Rattle.hc_objects.proofs.Holding.{holds-written, holds-grown}
 use Rattle.hc_objects.proofs.Touching.{slot-written, map-marked, map-moved}
 use Rattle.hc_objects.proofs.Owning.{alone-still}
 use Rattle.hc_objects.proofs.Steps.{slot-tree, move-tree}
-use Rattle.hc_objects.proofs.Rising.{not-both}
 use Rattle.hc_objects.proofs.Sound.{is-later}
 use Rattle.hc_objects.proofs.Worlds.{object-world}
 

@@ -24,15 +24,18 @@ use Rattle.hc_tree.specs.Needs.{with_need}
 use Rattle.hc_tree.specs.Tree.{IsTree, gate_with}
 use Rattle.hc_table.specs.World.{Object}
 use Rattle.hc_objects.specs.Becoming.{IsOwned, with_proto}
-use Rattle.hc_objects.specs.Changes.{Touches, OpensNoRoot, SlotsStay, Stepped}
-use Rattle.hc_objects.specs.Meaning.{Dictionary, fast_object, fast_props, is_extensible, kept_of, object_shown, proto_of, slot_word, world}
+use Rattle.hc_objects.specs.Changes.{Touches, OpensNoRoot, Stepped}
+use Rattle.hc_slots.specs.Slots.{SlotsStay, IsIn, AreHandedOut}
+use Rattle.hc_slots.specs.Meaning.{Dictionary, fast_object, fast_props, is_extensible, object_shown, proto_of, slot_word}
+use Rattle.hc_objects.specs.Meaning.{kept_of, world}
 use Rattle.hc_objects.specs.Privates.{IsAlike}
-use Rattle.hc_objects.specs.State.{HasMap, IsFast, IsIn, IsObjects, AreHandedOut}
+use Rattle.hc_slots.specs.Fast.{HasMap, IsFast}
+use Rattle.hc_objects.specs.State.{IsObjects}
 use Rattle.hc_objects.proofs.Alike.{alike-copy, alike-holds, fast-alike}
 use Rattle.hc_objects.proofs.Owning.{nobody-has, open-used}
 use Rattle.hc_objects.proofs.Prototypes.{became-from, became-proto, proto-touches, same-sound, same-world}
-use Rattle.hc_objects.proofs.Sound.{is-later, some-is, still-out}
-use Rattle.hc_objects.proofs.Sparing.{cond-other}
+use Rattle.hc_objects.proofs.Sound.{is-later, still-out}
+use Rattle.hc_slots.specs.Cases.{some-is, cond-other}
 use Rattle.hc_objects.proofs.Staying.{IsLater, later}
 use Rattle.hc_objects.proofs.Steps.{marked-unstable, move-tree, opens-one, own-map, private-no-root}
 use Rattle.hc_objects.proofs.Touching.{map-made, map-marked, map-moved}

@@ -1,6 +1,5 @@
 -- The slots that an object has after an operation, and its map where that is private.
-use Rattle.std.proofs.Common.{◌≡◌, ◌≢◌, ℕ, ◌+◌, ◌<◌, ◌≤◌, Bool, true, false, Option, Some, None, IsSome, IfSome, List, length, refl, sym, ◌∙◌, subst, arith}
-use Rattle.std.specs.Prelude.{IsSomeAnd}
+use Rattle.std.proofs.Common.{◌≡◌, ◌≢◌, ℕ, ◌<◌, ◌≤◌, Bool, true, false, Option, Some, None, List, length, refl, sym, ◌∙◌, subst, arith}
 use Rattle.hc_layout.specs.declared.words.GateWord.{GateWord}
 use Rattle.hc_layout.specs.declared.words.StoreWord.{StoreWord}
 use Rattle.hc_heap.specs.Writes.{Trail}
@@ -8,26 +7,14 @@ use Rattle.hc_heap.specs.Readings.{gate_in, map_in, store_in}
 use Rattle.hc_heap.specs.Kept.{UnusedSaysNothing}
 use Rattle.hc_heap.specs.States.{View, IsHeap}
 use Rattle.hc_heap.specs.declared.kind.Kind.TheVariants.{GateOfMap, MapOfObject}
-use Rattle.hc_objects.specs.Meaning.{Dictionary, kept_of}
-use Rattle.hc_objects.specs.State.{IsKeptSo, IsIn, Owns, AreHandedOut, IsObjects}
+use Rattle.hc_slots.specs.Meaning.{Dictionary}
+use Rattle.hc_objects.specs.Meaning.{kept_of}
+use Rattle.hc_objects.specs.State.{IsKeptSo, IsObjects}
+use Rattle.hc_slots.specs.Slots.{IsIn, Owns}
 
 -- the object's slots are where they were
 pub owns-same : (old new : Trail) (o s : ℕ) → store_in new o ≡ store_in old o → Owns new o s → Owns old o s
 owns-same old new o s is h = subst (λ (w : StoreWord). IsIn w s) is h
-
--- the object's slots are new
-pub owns-new : (t : Trail) (o slots s : ℕ) → (store_in t o).first ≡ Some slots → Owns t o s → s < slots → ⊥
-owns-new t o slots s is h lt = by (store_in t o).first is h
-  where
-    by : (first : Option ℕ) → first ≡ Some slots → IsSomeAnd first (λ x. (x ≤ s) × (s < x + (store_in t o).capacity)) → ⊥
-    by (Some x) e k = let same : x ≡ slots = cc in omega (arith, same, k.0, lt)
-    by None e k = k
-
-pub handed-out : (slots first : ℕ) (w : StoreWord) → w.first ≡ Some first → first + w.capacity ≤ slots → AreHandedOut slots w
-handed-out slots first w is le = record {
-  first = λ some. subst IsSome (sym is) refl;
-  there = subst (λ (o : Option ℕ). IfSome o (λ x. x + w.capacity ≤ slots)) (sym is) le;
-}
 
 module _ (unused : UnusedSaysNothing) (v : View) (heap : IsHeap v) where
   -- a map that is open was handed out

@@ -11,12 +11,11 @@ use Rattle.hc_value.specs.declared.prop.Kind.{Kind}
 use Rattle.hc_value.specs.declared.prop.Kind.TheVariants.{DataProp, AccessorProp}
 use Rattle.hc_value.specs.declared.prop.Prop.{Prop}
 use Rattle.hc_heap.specs.Writes.{Trail}
-use Rattle.hc_descs.specs.Entries.{key_at, count_of}
-use Rattle.hc_tree.specs.Copying.{detail_at}
+use Rattle.hc_descs.specs.Entries.{key_at, count_of, detail_at}
 use Rattle.hc_table.specs.Changes.{kind_at}
-use Rattle.hc_objects.specs.Listed.{listed}
-use Rattle.hc_objects.specs.Meaning.{held_in, datum_of, pair_of, prop_of, prop_in, slot_word, fast_props}
-use Rattle.hc_objects.proofs.Sound.{some-is}
+use Rattle.hc_slots.specs.Listed.{listed}
+use Rattle.hc_slots.specs.Meaning.{held_in, datum_of, pair_of, prop_of, prop_in, slot_word, fast_props}
+use Rattle.hc_slots.specs.Cases.{some-is}
 
 datum-kind : (v : Option Value) → kind_of (datum_of v) ≡ DataProp
 datum-kind (Some v) = refl

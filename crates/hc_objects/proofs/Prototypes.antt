@@ -15,12 +15,12 @@ use Rattle.hc_table.specs.Kept.{IsKept, with_world}
 use Rattle.hc_table.specs.World.{World}
 use Rattle.hc_objects.specs.Becoming.{HasBecome, with_proto}
 use Rattle.hc_objects.specs.Changes.{Touches, Stepped}
-use Rattle.hc_objects.specs.Meaning.{Dictionary, dictionary_object, kept_of, object_shown, world}
+use Rattle.hc_slots.specs.Meaning.{Dictionary, dictionary_object, object_shown}
+use Rattle.hc_objects.specs.Meaning.{kept_of, world}
 use Rattle.hc_objects.specs.State.{IsKeptSo, IsObjects, tables_of}
 use Rattle.hc_objects.proofs.Left.{set-object}
 use Rattle.hc_objects.proofs.Owning.{open-used}
-use Rattle.hc_objects.proofs.Rising.{not-both}
-use Rattle.hc_objects.proofs.Sparing.{cond-other}
+use Rattle.hc_slots.specs.Cases.{not-both, cond-other}
 use Rattle.hc_objects.proofs.Stepping.{set-same, stepped-world, stepped-sound}
 use Rattle.hc_objects.proofs.Steps.{proto-tree}
 use Rattle.hc_objects.proofs.Worlds.{length-world, object-world}

@@ -1,41 +1,38 @@
 -- An object with a shared map comes to the one with another prototype and the same keys.
-use Rattle.std.proofs.Common.{◌≡◌, ℕ, ◌+◌, ◌<◌, ◌≤◌, Bool, true, false, cond, eqb, eqb-true, ◌∷◌, Option, Some, None, IfSome, refl, sym, ap, ◌∙◌, subst, arith, eq-eqb, true≢false}
+use Rattle.std.proofs.Common.{◌≡◌, ℕ, ◌+◌, ◌<◌, ◌≤◌, Bool, false, cond, ◌∷◌, Option, Some, None, IfSome, refl, sym, ap, ◌∙◌, subst, arith, eq-eqb, true≢false}
 use Rattle.std.specs.Prelude.{IsSomeAnd, IsTrue}
 use Rattle.hc_layout.specs.declared.shape.Shape.{Shape}
 use Rattle.hc_layout.specs.declared.shape.Region.TheVariants.{Maps}
 use Rattle.hc_layout.specs.declared.words.GateWord.{GateWord}
+use Rattle.hc_layout.specs.declared.words.MapBits.{MapBits}
 use Rattle.hc_layout.specs.declared.words.StoreWord.{StoreWord}
-use Rattle.hc_heap.specs.Writes.{Write, Trail, ObjectMap, Root}
-use Rattle.hc_heap.specs.Readings.{gate_in, bits_in, map_in, root_in, store_in, slot_in}
+use Rattle.hc_heap.specs.Writes.{Trail, ObjectMap}
+use Rattle.hc_heap.specs.Readings.{gate_in, bits_in, map_in, prototype_in, root_in, store_in, slot_in}
 use Rattle.hc_heap.specs.Lawful.{Lawful, LawfulObjectMap, HoldsEntries, word_from}
 use Rattle.hc_heap.specs.Kept.{Adds, DetailsRise, GatesAreOpen, SetIsKept, UnusedSaysNothing}
 use Rattle.hc_heap.specs.Frames.{same-after, adds-on, adds-wider, goes-on-of}
 use Rattle.hc_heap.specs.States.{View, IsHeap, with_write}
 use Rattle.hc_tree.specs.Tree.{gate_with}
+use Rattle.hc_tree.specs.Frames.{reshapes-grow}
 use Rattle.hc_tree.specs.Kept.{MapsAreKept, TreesStay}
+use Rattle.hc_tree.specs.Walking.{WalkGets}
 use Rattle.hc_tree.specs.Growth.{marked, root_of, root_need}
-use Rattle.hc_objects.specs.State.{AreRoots, IsFast}
-use Rattle.hc_objects.specs.Changes.{Touches, SlotsStay}
+use Rattle.hc_objects.specs.State.{AreRoots}
+use Rattle.hc_slots.specs.Fast.{IsFast}
+use Rattle.hc_objects.specs.Changes.{Changed, Touches}
+use Rattle.hc_slots.specs.Slots.{SlotsStay}
 use Rattle.hc_objects.specs.Linking.{GrowsTree, HasMapFor, IsRelinked, shared_need}
 use Rattle.hc_objects.specs.Modes.{IsWithin, both, walk_need}
-use Rattle.hc_objects.proofs.Found.{grows-touches, map-grown, store-grown, slot-grown}
+use Rattle.hc_objects.proofs.Found.{grows-touches, map-grown, proto-grown, store-grown, slot-grown}
 use Rattle.hc_objects.proofs.Left.{marked-same}
 use Rattle.hc_objects.proofs.Likeness.{like-holds}
 use Rattle.hc_objects.proofs.Owning.{open-used}
-use Rattle.hc_objects.proofs.Rising.{not-both}
-use Rattle.hc_objects.proofs.Sound.{roots-stay}
+use Rattle.hc_slots.specs.Cases.{not-both, some-is, some-of}
+use Rattle.hc_objects.proofs.Marking.{bits-marked}
+use Rattle.hc_objects.proofs.Sound.{is-later, roots-stay}
 use Rattle.hc_objects.proofs.Staying.{IsLater, later}
 use Rattle.hc_objects.proofs.Steps.{marked-unstable, move-tree}
 use Rattle.hc_objects.proofs.Touching.{map-marked, map-moved}
-
--- whether an object is a prototype stays
-pub proto-grown : (q : ℕ) (t : Trail) (w : Write) → GrowsTree t w → (root_in (w ∷ t) q).is_proto ≡ (root_in t q).is_proto
-proto-grown q t (Root i r) e = by (eqb i q) refl
-  where
-    by : (c : Bool) → eqb i q ≡ c → (cond c r (root_in t q)).is_proto ≡ (root_in t q).is_proto
-    by true is = e.0 ∙ ap (λ (x : ℕ). (root_in t x).is_proto) (eqb-true i q is)
-    by false is = refl
-proto-grown q t _ e = refl
 
 -- A map that is made unstable
 
@@ -60,8 +57,11 @@ marked-roots maps details v m null heap then_heap roots =
 
 module _ (maps : MapsAreKept) (details : DetailsRise) (trees : TreesStay) (set : SetIsKept) (gates : GatesAreOpen) (unused : UnusedSaysNothing) (v w : View) (null then_null proto : Option ℕ) (o m c n : ℕ) (heap : IsHeap v)
     (found : HasMapFor (marked_view v m) w null then_null m c n proto) (has : map_in v.trail o ≡ Some m) (is_open : gate_in v.trail m ≡ Some (gate_with n false)) (holds : HoldsEntries v.trail o m (gate_with n false)) (shared : (root_in v.trail o).is_proto ≡ false) where
+  grown : Adds GrowsTree (marked v.trail m) w.trail
+  grown = adds-wider (reshapes-grow v.used (WalkGets (marked v.trail m) found.end m found.count n v.used.fields)) found.writes
+
   touches : Adds (Touches v o) v.trail w.trail
-  touches = adds-on (map-marked v o v.trail m) (adds-wider (grows-touches v o) found.writes)
+  touches = adds-on (map-marked v o v.trail m) (adds-wider (grows-touches v o) grown)
 
   lawful-then : Lawful v.shape w.trail
   lawful-then = subst (λ (s : Shape). Lawful s w.trail) found.shape found.heap.lawful
@@ -70,16 +70,16 @@ module _ (maps : MapsAreKept) (details : DetailsRise) (trees : TreesStay) (set :
   after = later maps details v.shape v.trail w.trail heap.lawful (goes-on-of v.shape touches lawful-then)
 
   map-same : map_in w.trail o ≡ map_in v.trail o
-  map-same = same-after (λ (t : Trail). map_in t o) (map-grown o) found.writes ∙ marked-same v.trail m (λ (t : Trail). map_in t o) (λ b. refl)
+  map-same = same-after (λ (t : Trail). map_in t o) (map-grown o) grown ∙ marked-same v.trail m (λ (t : Trail). map_in t o) (λ b. refl)
 
   store-same : store_in w.trail o ≡ store_in v.trail o
-  store-same = same-after (λ (t : Trail). store_in t o) (store-grown o) found.writes ∙ marked-same v.trail m (λ (t : Trail). store_in t o) (λ b. refl)
+  store-same = same-after (λ (t : Trail). store_in t o) (store-grown o) grown ∙ marked-same v.trail m (λ (t : Trail). store_in t o) (λ b. refl)
 
   slot-same : (s : ℕ) → slot_in w.trail s ≡ slot_in v.trail s
-  slot-same s = same-after (λ (t : Trail). slot_in t s) (slot-grown s) found.writes ∙ marked-same v.trail m (λ (t : Trail). slot_in t s) (λ b. refl)
+  slot-same s = same-after (λ (t : Trail). slot_in t s) (slot-grown s) grown ∙ marked-same v.trail m (λ (t : Trail). slot_in t s) (λ b. refl)
 
   proto-same : (q : ℕ) → (root_in w.trail q).is_proto ≡ (root_in v.trail q).is_proto
-  proto-same q = same-after (λ (t : Trail). (root_in t q).is_proto) (proto-grown q) found.writes ∙ marked-same v.trail m (λ (t : Trail). (root_in t q).is_proto) (λ b. refl)
+  proto-same q = same-after (λ (t : Trail). (root_in t q).is_proto) (proto-grown q) grown ∙ marked-same v.trail m (λ (t : Trail). (root_in t q).is_proto) (λ b. refl)
 
   word-by : (first : Option ℕ) (k : ℕ) → word_from w.trail first k ≡ word_from v.trail first k
   word-by (Some x) k = slot-same (x + k)
@@ -92,7 +92,7 @@ module _ (maps : MapsAreKept) (details : DetailsRise) (trees : TreesStay) (set :
   fast = record { is_open = is_open; holds = record { capacity = holds.capacity; slots = holds.slots }; private = sym shared }
 
   unstable-then : IsTrue (bits_in w.trail m).unstable
-  unstable-then = (set v.shape (marked v.trail m) w.trail (goes-on-of v.shape found.writes lawful-then)).unstable m (marked-unstable v.trail m)
+  unstable-then = (set v.shape (marked v.trail m) w.trail (goes-on-of v.shape grown lawful-then)).unstable m (marked-unstable v.trail m)
 
   -- the object may have the map
   pub relink-lawful : LawfulObjectMap w.shape w.trail o (Some c)
@@ -136,6 +136,15 @@ module _ (maps : MapsAreKept) (details : DetailsRise) (trees : TreesStay) (set :
       protos = proto-same;
       store = store-same;
       words = slot-same;
-      more = ObjectMap o (Some c) ∷ found.writes.more;
-      after = ap (λ (t : Trail). ObjectMap o (Some c) ∷ t) found.writes.is;
+      more = ObjectMap o (Some c) ∷ grown.more;
+      after = ap (λ (t : Trail). ObjectMap o (Some c) ∷ t) grown.is;
+      marks = λ x other stable unstable. found.linked x (ap (λ (b : MapBits). b.unstable) (bits-marked v.trail m x other) ∙ stable) unstable;
     }
+
+-- the prototype of a map that the object comes back to
+pub proto-before : MapsAreKept → DetailsRise → GatesAreOpen → (v w : View) (o m k : ℕ) (proto : Option ℕ) (g : GateWord) → IsHeap v → gate_in v.trail m ≡ Some g → Changed v w o → k ≡ m → prototype_in w.trail k ≡ Some proto → prototype_in v.trail m ≡ Some proto
+proto-before maps details gates v w o m k proto g heap gate changed is named =
+    let was = some-of (prototype_in v.trail m) (gates v.shape v.trail m g heap.lawful gate).prototype in
+    let now : prototype_in w.trail m ≡ Some was.0 = (is-later maps details v w o heap changed).maps.written.prototype m was.0 was.1 in
+    let same : was.0 ≡ proto = some-is was.0 proto (sym now ∙ subst (λ (x : ℕ). prototype_in w.trail x ≡ Some proto) is named) in
+    was.1 ∙ ap (λ (x : Option ℕ). Some x) same

@@ -13,10 +13,11 @@ use Rattle.hc_descs.specs.Entries.{count_of, entries_in}
 use Rattle.hc_tree.specs.Kept.{MapsAreKept, TreesStay}
 use Rattle.hc_tree.specs.Copying.{copy_need}
 use Rattle.hc_tree.specs.Needs.{with_need}
-use Rattle.hc_objects.specs.State.{IsFast}
+use Rattle.hc_slots.specs.Fast.{IsFast}
 use Rattle.hc_objects.specs.Privates.{IsAlike, IsCopied, IsMovedToCopy}
 use Rattle.hc_objects.proofs.Alike.{alike-copy, alike-holds}
 use Rattle.hc_objects.proofs.Copied.{copy-changed, copy-later, copy-opens, copy-there, map-same, root-same, store-same, word-same}
+use Rattle.hc_objects.proofs.Owning.{open-used}
 use Rattle.hc_objects.proofs.Steps.{move-tree}
 use Rattle.hc_objects.proofs.Touching.{map-moved}
 
@@ -70,5 +71,7 @@ module _ (maps : MapsAreKept) (details : DetailsRise) (trees : TreesStay) (unuse
           store = store-same maps details unused fresh None proto v w m heap it o;
           words = λ k lt. word-same maps details unused fresh None proto v w m heap it o k;
           used = subst (λ (k : ℕ). w.used ≡ with_need (copy_need fresh None k) v.used) count it.used;
+          younger = open-used unused v heap m g fast.is_open;
+          stable = it.own.stable;
           after = adds-on it.after (adds-one w.trail (ObjectMap o (Some v.used.maps)) tt);
         }

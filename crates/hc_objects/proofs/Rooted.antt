@@ -1,17 +1,15 @@
 -- The root of a prototype, or of null, is there: it was found, or made.
-use Rattle.std.proofs.Common.{◌≡◌, ◌≢◌, ℕ, Bool, true, false, cond, eqb, eqb-true, eq-eqb, ◌∷◌, Option, Some, None, IfSome, refl, sym, ap, ◌∙◌, subst, arith}
+use Rattle.std.proofs.Common.{◌≡◌, ◌≢◌, ℕ, Bool, true, false, cond, eqb, eqb-true, eq-eqb, Option, Some, None, IfSome, refl, sym, ap, ◌∙◌, subst}
 use Rattle.std.specs.Prelude.{Ok}
-use Rattle.hc_layout.specs.declared.shape.Shape.{Shape}
 use Rattle.hc_layout.specs.declared.words.RootWord.{RootWord}
-use Rattle.hc_heap.specs.Writes.{Trail, Gate, Parent, Prototype, Root}
+use Rattle.hc_heap.specs.Writes.{Trail}
 use Rattle.hc_heap.specs.Readings.{gate_in, parent_in, prototype_in, root_in}
 use Rattle.hc_heap.specs.States.{View, HeapState, IsHeap}
 use Rattle.hc_tree.specs.Tree.{IsTree, IsRoot, gate_with}
 use Rattle.hc_tree.specs.Needs.{with_need}
-use Rattle.hc_tree.specs.Growth.{IsStill, IsUnmoved, root_of, root_need, with_root, with_named_root, of_null_after}
+use Rattle.hc_tree.specs.Growth.{IsStill, IsUnmoved, root_of, root_need, with_named_root, of_null_after}
 use Rattle.hc_objects.specs.State.{AreRoots}
-use Rattle.hc_objects.proofs.Sound.{same-or, some-is}
-use Rattle.hc_objects.proofs.Sparing.{cond-other}
+use Rattle.hc_slots.specs.Cases.{same-or, some-is, cond-other}
 
 -- the trail after the root was made, where there was none
 abbrev pub rooted : Option ℕ → Trail → Option ℕ → ℕ → Trail

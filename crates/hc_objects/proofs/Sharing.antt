@@ -10,8 +10,7 @@ use Rattle.hc_descs.specs.Entries.{key_at}
 use Rattle.hc_links.specs.Chains.{links_in}
 use Rattle.hc_tree.specs.Tree.{IsTree, IsChildFor, IsSoundLink, HaveOneLive, gate_with}
 use Rattle.hc_objects.specs.State.{AreRoots}
-use Rattle.hc_objects.proofs.Rising.{some-of}
-use Rattle.hc_objects.proofs.Sound.{some-is}
+use Rattle.hc_slots.specs.Cases.{some-of, some-is}
 
 get_or-any : (ls : List ℕ) (k a b : ℕ) → k < length ls → get_or ls k a ≡ get_or ls k b
 get_or-any [] k a b lt = absurd (omega arith)

@@ -7,9 +7,11 @@ use Rattle.hc_heap.specs.Readings.{map_in}
 use Rattle.hc_table.specs.Attributes.{IsProper}
 use Rattle.hc_table.specs.World.{object, props_at}
 use Rattle.hc_objects.specs.Came.{world_of}
-use Rattle.hc_objects.specs.Meaning.{Dictionary, dictionary_object, kept_of, object_shown}
-use Rattle.hc_objects.specs.State.{ObjectsState, IsObjects, IsKeptSo, HasMap}
-use Rattle.hc_objects.proofs.Fetching.{all-at}
+use Rattle.hc_slots.specs.Meaning.{Dictionary, dictionary_object, object_shown}
+use Rattle.hc_objects.specs.Meaning.{kept_of}
+use Rattle.hc_objects.specs.State.{ObjectsState, IsObjects, IsKeptSo}
+use Rattle.hc_slots.specs.Fast.{HasMap}
+use Rattle.hc_slots.specs.Listed.{all-at}
 use Rattle.hc_objects.proofs.Worlds.{length-world, object-world}
 
 -- Items

@@ -16,27 +16,28 @@ use Rattle.hc_heap.specs.Readings.{gate_in, parent_in, prototype_in, bits_in, ma
 use Rattle.hc_heap.specs.Lawful.{LawfulObjectMap, HoldsEntries, IsFormOf}
 use Rattle.hc_heap.specs.Frames.{adds-on, goes-on-of}
 use Rattle.hc_heap.specs.States.{View, IsHeap}
-use Rattle.hc_descs.specs.Entries.{key_at, field_at, entries_in, count_of}
+use Rattle.hc_descs.specs.Entries.{key_at, field_at, entries_in, count_of, detail_of}
 use Rattle.hc_tree.specs.Growth.{marked}
 use Rattle.hc_tree.specs.Tree.{IsTree}
-use Rattle.hc_tree.specs.Copying.{detail_of}
 use Rattle.hc_table.specs.Changes.{Removed, removed_at, with_removed}
 use Rattle.hc_table.specs.Kept.{IsKept, with_world}
 use Rattle.hc_table.specs.World.{Object, World, object, props_at, with_list}
-use Rattle.hc_objects.specs.Listed.{listed}
+use Rattle.hc_slots.specs.Listed.{listed, length-listed, listed-same}
 use Rattle.hc_objects.specs.Came.{world_of}
 use Rattle.hc_objects.specs.Modes.{IsOne, Becomes, if_deleted}
-use Rattle.hc_objects.specs.Meaning.{Dictionary, cause_in, fast_object, fast_props, is_extensible, kept_of, object_shown, prop_in, prop_of, proto_of, slot_word, world}
-use Rattle.hc_objects.specs.State.{HasMap, IsFast, IsIn, IsObjects, AreHandedOut, ObjectsState, tables_of}
+use Rattle.hc_slots.specs.Meaning.{Dictionary, fast_object, fast_props, is_extensible, object_shown, prop_in, prop_of, proto_of, slot_word}
+use Rattle.hc_objects.specs.Meaning.{cause_in, kept_of, world}
+use Rattle.hc_slots.specs.Fast.{HasMap, IsFast}
+use Rattle.hc_slots.specs.Slots.{IsIn, AreHandedOut}
+use Rattle.hc_objects.specs.State.{IsObjects, ObjectsState, tables_of}
 use Rattle.hc_objects.specs.Changes.{Changed, Stepped}
 use Rattle.hc_objects.proofs.Adding.{map-is}
 use Rattle.hc_objects.proofs.Composing.{all-stay, no-cause}
 use Rattle.hc_objects.proofs.Left.{marked-same}
-use Rattle.hc_objects.proofs.Listed.{length-listed, listed-same}
 use Rattle.hc_objects.proofs.Owning.{open-used}
-use Rattle.hc_objects.proofs.Rising.{not-both}
+use Rattle.hc_slots.specs.Cases.{not-both, some-is}
 use Rattle.hc_objects.proofs.Sharing.{IsUnder, is-under}
-use Rattle.hc_objects.proofs.Sound.{is-later, some-is}
+use Rattle.hc_objects.proofs.Sound.{is-later}
 use Rattle.hc_objects.proofs.Staying.{IsLater, fast-stays, holds-still}
 use Rattle.hc_objects.proofs.Stepping.{stepped-world, stepped-sound, set-same}
 use Rattle.hc_objects.proofs.Steps.{move-tree, marked-unstable}

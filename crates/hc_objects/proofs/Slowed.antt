@@ -1,9 +1,8 @@
 -- A slow object that is given another dictionary, as what objects are before and after it.
 use Rattle.std.proofs.Common.{◌≡◌, ℕ, zero, suc, ◌<◌, List, [], ◌∷◌, Option, Some, None, length, get_or, set, MutBor, Result, Ok, Err, refl, sym, ap, ◌∙◌, subst, arith}
-use Rattle.std.specs.Prelude.{slice_get, OnOk, OnErr}
+use Rattle.std.specs.Prelude.{OnOk, OnErr}
 use Rattle.std.specs.Option.{option_copied_mut}
 use Rattle.hc_board.specs.Trail.{Access}
-use Rattle.hc_value.specs.declared.prop.Held.{Held}
 use Rattle.hc_value.specs.declared.prop.Kind.{Kind}
 use Rattle.hc_value.specs.declared.prop.Prop.{Prop}
 use Rattle.hc_heap.specs.Readings.{map_in}
@@ -11,22 +10,22 @@ use Rattle.hc_heap.specs.Kept.{DetailsRise}
 use Rattle.hc_heap.specs.Frames.{goes-none}
 use Rattle.hc_heap.specs.States.{View}
 use Rattle.hc_tree.specs.Kept.{MapsAreKept}
-use Rattle.hc_table.specs.Changes.{Did, after, kind_at}
+use Rattle.hc_table.specs.Changes.{Did, after, kind_at, locked, name_at, removed_at, restricted_object, with_link}
 use Rattle.hc_table.specs.Kept.{IsKept, MayDo, ChangesKeep, with_world}
-use Rattle.hc_table.specs.World.{Object, World, object, holding, held_at}
-use Rattle.hc_objects.specs.Meaning.{Dictionary, dictionary_object, kept_of, object_shown, world}
+use Rattle.hc_table.specs.World.{Object, World, held_at, object, with_list}
+use Rattle.hc_slots.specs.Meaning.{Dictionary, dictionary_object, object_shown}
+use Rattle.hc_objects.specs.Meaning.{kept_of, world}
 use Rattle.hc_objects.specs.State.{ObjectsState, IsKeptSo, IsObjects, tables_of}
 use Rattle.hc_objects.specs.Came.{Steps, world_of}
 use Rattle.hc_objects.proofs.Shown.{kept-item}
 use Rattle.hc_objects.specs.Changes.{Stepped}
 use Rattle.hc_objects.proofs.Stepping.{stepped-world, stepped-sound, slow-step}
-use Rattle.hc_objects.proofs.Worlds.{object-world}
-
--- another that holds so much, at a place
-pub held-set : (ps : List Prop) (i : ℕ) (p : Prop) (held : Held) → slice_get ps i ≡ Some p → set ps i (holding p held) ≡ held_at ps i held
-held-set [] i p held e = refl
-held-set (q ∷ ps) zero p held e = let same : q ≡ p = cc in ap (λ (x : Prop). holding x held ∷ ps) (sym same)
-held-set (q ∷ ps) (suc i) p held e = ap (λ (xs : List Prop). q ∷ xs) (held-set ps i p held e)
+use Rattle.hc_objects.proofs.Worlds.{length-world, object-world}
+use Rattle.hc_dict.specs.Changes.{MayChange, changed}
+use Rattle.hc_dict.specs.declared.dictionary.Change.{Change}
+use Rattle.hc_dict.specs.declared.dictionary.Change.TheVariants.{Write, Put, Remove, Link, Lock, Restrict}
+use Rattle.hc_objects.specs.Slow.{MayBeSlow, did_of}
+use Rattle.hc_value.specs.Prop.{kind_of}
 
 -- a property that has a kind is there
 pub kind-there : (ps : List Prop) (i : ℕ) (k : Kind) → kind_at ps i ≡ Some k → i < length ps
@@ -58,6 +57,34 @@ module _ (v : View) (kept : List (Option Dictionary)) (of_null : Option ℕ) (h 
     pub slow-sound : MayDo (tables_of v kept) did → IsObjects v (set kept o (Some e)) of_null
     slow-sound may = stepped-sound maps details v v kept of_null h (Some e) o (dictionary_object e) there step refl
         (subst (λ (w : World). IsKept (with_world (tables_of v kept) w)) is (changes (tables_of v kept) did h.sound may))
+
+  -- a change that takes no memory
+  change-after : (change : Change) → after (did_of o change) (world v.trail kept) ≡ set (world v.trail kept) o (dictionary_object (changed d change))
+  change-after (Write i held) = slow-change (changed d (Write i held)) (λ (x : Object). with_list x (held_at x.props i held)) refl
+  change-after (Put i p) = slow-change (changed d (Put i p)) (λ (x : Object). with_list x (set x.props i p)) refl
+  change-after (Remove i) = slow-change (changed d (Remove i)) (λ (x : Object). with_list x (removed_at x.props i)) refl
+  change-after (Link proto) = slow-change (changed d (Link proto)) (λ (x : Object). with_link x proto) refl
+  change-after Lock = slow-change (changed d Lock) (λ (x : Object). locked x) refl
+  change-after (Restrict frozen) = slow-change (changed d (Restrict frozen)) (λ (x : Object). restricted_object x frozen) refl
+
+  pub change-is : (change : Change) (e : Dictionary) → e ≡ changed d change → after (did_of o change) (world v.trail kept) ≡ set (world v.trail kept) o (dictionary_object e)
+  change-is change e is = change-after change ∙ ap (λ (y : Dictionary). set (world v.trail kept) o (dictionary_object y)) (sym is)
+
+  pub may-change : (change : Change) → MayBeSlow (world v.trail kept) o change → MayChange d.props change
+  may-change (Write i held) may = kind-there d.props i (kind_of held) (ap (λ (x : Object). kind_at x.props i) (sym is-slow) ∙ may.0)
+  may-change (Put i p) may = ap (λ (x : Object). name_at x.props i) (sym is-slow) ∙ may.0
+  may-change (Remove i) may = subst (λ (x : Object). i < length x.props) is-slow may
+  may-change (Link proto) may = tt
+  may-change Lock may = tt
+  may-change (Restrict frozen) may = tt
+
+  pub may-do : (change : Change) → MayBeSlow (world v.trail kept) o change → MayDo (tables_of v kept) (did_of o change)
+  may-do (Write i held) may = may
+  may-do (Put i p) may = may
+  may-do (Remove i) may = tt
+  may-do (Link proto) may = (subst (λ (n : ℕ). o < n) (sym (length-world v.trail kept)) there, may.0, may.1)
+  may-do Lock may = tt
+  may-do (Restrict frozen) may = tt
 
 -- nothing is stored: the words, the writer and the pace stay
 pub slow-steps : {P : Type 0} (went : P → List Access → List Access → P → Type 0) → ((p : P) (t : List Access) → went p t t p) → (a b : ObjectsState P) → a ≡ b → (did : Did) (kept : List (Option Dictionary))

@@ -1,5 +1,5 @@
 -- What holds of objects holds after an operation on one of them.
-use Rattle.std.proofs.Common.{◌≡◌, ◌≢◌, ℕ, ◌+◌, ◌<◌, ◌≤◌, Bool, true, false, eqb, eqb-true, eq-eqb, true≢false, List, Option, Some, None, IfSome, length, refl, sym, ap, ◌∙◌, subst, arith}
+use Rattle.std.proofs.Common.{◌≡◌, ◌≢◌, ℕ, ◌+◌, ◌<◌, ◌≤◌, Bool, true, false, true≢false, List, Option, Some, None, IfSome, length, refl, sym, ap, ◌∙◌, subst, arith}
 use Rattle.std.specs.Prelude.{nat_lt}
 use Rattle.std.proofs.lemmas.Bool.Decides.{nat_tests}
 use Rattle.hc_layout.specs.declared.words.GateWord.{GateWord}
@@ -16,20 +16,14 @@ use Rattle.hc_tree.specs.Growth.{root_of}
 use Rattle.hc_tree.specs.Kept.{MapsAreKept}
 use Rattle.hc_table.specs.Kept.{Kept, IsKept, with_world}
 use Rattle.hc_table.specs.World.{World}
-use Rattle.hc_objects.specs.Meaning.{Dictionary, kept_of, object_shown, object_at, world}
-use Rattle.hc_objects.specs.State.{IsKeptSo, IsIn, Owns, AreHandedOut, AreRoots, IsObjects, tables_of}
+use Rattle.hc_slots.specs.Meaning.{Dictionary, object_shown}
+use Rattle.hc_objects.specs.Meaning.{kept_of, object_at, world}
+use Rattle.hc_objects.specs.State.{IsKeptSo, AreRoots, IsObjects, tables_of}
+use Rattle.hc_slots.specs.Slots.{IsIn, Owns, AreHandedOut}
 use Rattle.hc_objects.specs.Changes.{Touches, Changed, WordsStay, KeptBut, IsWell, OpensNoRoot}
 use Rattle.hc_objects.proofs.Staying.{IsLater, later, object-stays, kept-still, proto-stays}
-use Rattle.hc_objects.proofs.Rising.{some-of}
+use Rattle.hc_slots.specs.Cases.{some-of, same-or, some-is}
 use Rattle.hc_objects.proofs.Sparing.{words-stay, live-stays, owned-used, named-stays, root-by}
-
--- a number is this one or another
-pub same-or : (p o : ℕ) (C : Type 0) → (p ≡ o → C) → (p ≢ o → C) → C
-same-or p o C same other = by (eqb p o) refl
-  where
-    by : (b : Bool) → eqb p o ≡ b → C
-    by true e = same (eqb-true p o e)
-    by false e = other (λ is. true≢false (sym (eq-eqb p o is) ∙ e))
 
 -- a number is below another, or not
 pub below-or : (q n : ℕ) (C : Type 0) → (q < n → C) → (n ≤ q → C) → C
@@ -44,9 +38,6 @@ pub protos-stay : (old : View) (new : Trail) (o : ℕ) → Adds (Touches old o) 
 protos-stay old new o adds same p = same-or p o ((root_in new p).is_proto ≡ (root_in old.trail p).is_proto)
     (λ is. subst (λ (q : ℕ). (root_in new q).is_proto ≡ (root_in old.trail q).is_proto) (sym is) same)
     (λ other. same-after (λ (t : Trail). (root_in t p).is_proto) (root-by old o p other) adds)
-
-pub some-is : {T : Type 0} (a b : T) → Some a ≡ Some b → a ≡ b
-some-is a b e = cc
 
 -- more slots were handed out
 pub still-out : (slots more : ℕ) (w : StoreWord) → slots ≤ more → AreHandedOut slots w → AreHandedOut more w

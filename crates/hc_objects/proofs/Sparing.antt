@@ -7,15 +7,9 @@ use Rattle.hc_heap.specs.Readings.{bits_in, map_in, root_in, store_in, slot_in}
 use Rattle.hc_heap.specs.Kept.{Adds, AllMeet}
 use Rattle.hc_heap.specs.Frames.{same-after}
 use Rattle.hc_heap.specs.States.{View}
-use Rattle.hc_objects.specs.State.{IsIn, Owns, AreHandedOut}
+use Rattle.hc_slots.specs.Slots.{IsIn, Owns, AreHandedOut}
 use Rattle.hc_objects.specs.Changes.{Touches, WordsStay}
-
-pub cond-other : {T : Type 0} (i x : ℕ) (a b : T) → i ≢ x → cond (eqb i x) a b ≡ b
-cond-other i x a b ne = by (eqb i x) refl
-  where
-    by : (c : Bool) → eqb i x ≡ c → cond c a b ≡ b
-    by true e = absurd (ne (eqb-true i x e))
-    by false e = refl
+use Rattle.hc_slots.specs.Cases.{cond-other}
 
 -- a slot that an object owns was handed out
 pub owned-used : (slots : ℕ) (w : StoreWord) (s : ℕ) → AreHandedOut slots w → IsIn w s → s < slots

@@ -24,14 +24,16 @@ use Rattle.hc_table.specs.Changes.{Did, Nothing, Moved, Created, Added, Wrote, R
 use Rattle.hc_table.specs.World.{World, props_at, new_object}
 use Rattle.hc_objects.specs.Came.{AreMoves, Became, Came, Effect, HasLeft, IsBecome, IsMarked, IsMove, IsStill, Left, Made, Marked, MayLeave, Move, marked_before, moves_before, moves_to_create, moves_to_link, world_of}
 use Rattle.hc_objects.specs.Changes.{key_of}
-use Rattle.hc_objects.specs.Filling.{slots_need}
-use Rattle.hc_objects.specs.Meaning.{Dictionary, cause_in, world}
+use Rattle.hc_slots.specs.Slots.{slots_need}
+use Rattle.hc_slots.specs.Meaning.{Dictionary}
+use Rattle.hc_objects.specs.Meaning.{cause_in, world}
 use Rattle.hc_objects.specs.Modes.{Becomes, IsCreated, IsOne, IsWithin, Modes, StaysFast, add_need, arrays_upto, both, grown_need, if_deleted, if_fast, if_many, link_need, need_by, need_of, proto_need, walk_need}
 use Rattle.hc_objects.specs.Spent.{IsNearlyFull, IsSpent, greatest_need, most_of_named, most_of_operation, times}
 use Rattle.hc_objects.specs.State.{ObjectsState, IsObjects}
 use Rattle.hc_objects.proofs.Needing.{IsAtMost, same-least, no-less-need, no-less-on, none-least, within-none, within-same}
 use Rattle.hc_objects.proofs.Items.{kept-past}
-use Rattle.hc_objects.proofs.Sound.{below-or, same-or}
+use Rattle.hc_objects.proofs.Sound.{below-or}
+use Rattle.hc_slots.specs.Cases.{same-or}
 use Rattle.hc_objects.proofs.Worlds.{length-world}
 use mathlib.Core.Logic.{inl, inr}
 

@@ -11,16 +11,17 @@ use Rattle.hc_heap.specs.Writes.{Trail}
 use Rattle.hc_heap.specs.Readings.{gate_in, prototype_in, map_in, store_in, slot_in, detail_in}
 use Rattle.hc_heap.specs.Lawful.{Lawful, IsField, RisesTo, IsFormOf, HoldsEntry, word_from}
 use Rattle.hc_heap.specs.Kept.{GoesOn, DetailsRise}
-use Rattle.hc_descs.specs.Entries.{key_at, field_at, count_of, entries_in}
+use Rattle.hc_descs.specs.Entries.{key_at, field_at, count_of, entries_in, detail_of, detail_at}
 use Rattle.hc_tree.specs.Kept.{MapsStay, MapsAreKept}
-use Rattle.hc_tree.specs.Copying.{detail_of, detail_at}
 use Rattle.hc_table.specs.World.{Object}
-use Rattle.hc_objects.specs.Listed.{listed}
-use Rattle.hc_objects.specs.Meaning.{Dictionary, prop_of, prop_in, slot_word, proto_of, is_extensible, fast_object, object_shown}
-use Rattle.hc_objects.specs.State.{IsFast, IsKeptSo, IsIn}
+use Rattle.hc_slots.specs.Listed.{listed, listed-same}
+use Rattle.hc_slots.specs.Meaning.{Dictionary, prop_of, prop_in, slot_word, proto_of, is_extensible, fast_object, object_shown}
+use Rattle.hc_slots.specs.Fast.{IsFast}
+use Rattle.hc_objects.specs.State.{IsKeptSo}
+use Rattle.hc_slots.specs.Slots.{owns-index}
 use Rattle.hc_objects.specs.Changes.{WordsStay}
-use Rattle.hc_objects.proofs.Listed.{listed-same}
-use Rattle.hc_objects.proofs.Rising.{some-of, prop-rises, form-stays}
+use Rattle.hc_slots.specs.Cases.{some-of}
+use Rattle.hc_objects.proofs.Rising.{prop-rises, form-stays}
 
 -- a later trail: its maps are kept, and details have risen
 pub record IsLater (old new : Trail) : Type 0 where
@@ -29,10 +30,6 @@ pub record IsLater (old new : Trail) : Type 0 where
 
 pub later : MapsAreKept → DetailsRise → (s : Shape) (old new : Trail) → Lawful s old → GoesOn s old new → IsLater old new
 later kept rise s old new before goes = record { maps = kept s old new before goes; details = λ f d e. rise s old new f d goes e }
-
--- a slot that an object owns, by its index
-pub owns-index : (w : StoreWord) (first k : ℕ) → w.first ≡ Some first → k < w.capacity → IsIn w (first + k)
-owns-index w first k is lt = subst (λ (o : Option ℕ). IsSomeAnd o (λ x. (x ≤ first + k) × (first + k < x + w.capacity))) (sym is) (omega arith, omega arith)
 
 word-same : (old new : Trail) (first : Option ℕ) (k : ℕ) → ((x : ℕ) → first ≡ Some x → slot_in new (x + k) ≡ slot_in old (x + k)) → word_from new first k ≡ word_from old first k
 word-same old new None k h = refl

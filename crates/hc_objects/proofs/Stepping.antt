@@ -9,7 +9,8 @@ use Rattle.hc_heap.specs.States.{View}
 use Rattle.hc_tree.specs.Kept.{MapsAreKept}
 use Rattle.hc_table.specs.Kept.{IsKept, with_world}
 use Rattle.hc_table.specs.World.{Object, new_object, with_object}
-use Rattle.hc_objects.specs.Meaning.{Dictionary, dictionary_object, kept_of, object_shown, world}
+use Rattle.hc_slots.specs.Meaning.{Dictionary, dictionary_object, object_shown}
+use Rattle.hc_objects.specs.Meaning.{kept_of, world}
 use Rattle.hc_objects.specs.State.{IsObjects, AreRoots, tables_of}
 use Rattle.hc_objects.specs.Changes.{Changed, IsWell, Stepped}
 use Rattle.hc_objects.proofs.Items.{kept-set, kept-set_here, kept-push, kept-push_here, length-push}

@@ -9,20 +9,20 @@ use Rattle.hc_layout.specs.declared.words.StoreWord.{StoreWord}
 use Rattle.hc_value.specs.declared.field.Detail.{Detail}
 use Rattle.hc_value.specs.declared.key.Key.{Key}
 use Rattle.hc_heap.specs.Writes.{Write, Trail, Gate, Bits, ObjectMap, Root, Store, Slot}
+use Rattle.hc_tree.specs.Details.{NoMap, Reshapes}
 use Rattle.hc_heap.specs.Readings.{gate_in, parent_in, prototype_in, bits_in, root_in, owner_in, detail_in}
 use Rattle.hc_heap.specs.Lawful.{IsOwnMap}
 use Rattle.hc_heap.specs.Kept.{Adds, UnusedSaysNothing}
 use Rattle.hc_heap.specs.Frames.{same-after}
 use Rattle.hc_heap.specs.States.{View, IsHeap}
 use Rattle.hc_heap.specs.declared.kind.Kind.TheVariants.{BitsOfMap}
-use Rattle.hc_descs.specs.Entries.{field_at}
+use Rattle.hc_descs.specs.Entries.{field_at, detail_of}
 use Rattle.hc_tree.specs.Tree.{IsChildFor, gate_with}
 use Rattle.hc_tree.specs.Kept.{TreeIsSame}
 use Rattle.hc_tree.specs.Growth.{MakesMap, EndsWith, marked}
-use Rattle.hc_tree.specs.Copying.{IsPrivateCopy, detail_of}
+use Rattle.hc_tree.specs.Copying.{IsPrivateCopy}
 use Rattle.hc_objects.specs.Changes.{IsGrown, OpensNoRoot}
-use Rattle.hc_objects.proofs.Sound.{some-is, same-or}
-use Rattle.hc_objects.proofs.Sparing.{cond-other}
+use Rattle.hc_slots.specs.Cases.{some-is, same-or, cond-other}
 use Rattle.hc_objects.proofs.Owning.{open-used}
 
 -- What a step leaves of the tree
@@ -54,22 +54,44 @@ pub bits-by : (used : Shape) (m : ℕ) (t : Trail) (w : Write) → MakesMap used
 bits-by used m t (Bits i b) e = let n : None ≡ Some i = e.0 in let f : ⊥ = cc in absurd f
 bits-by used m t _ e = refl
 
-module _ (unused : UnusedSaysNothing) (old new : View) (p : Option ℕ) (heap : IsHeap new) (adds : Adds (MakesMap old.used p) old.trail new.trail) where
+reshape-gate : (used : Shape) (Gets : ℕ → Detail → Type 0) (m : ℕ) → m < used.maps → (t : Trail) (w : Write) → Reshapes used NoMap Gets t w → gate_in (w ∷ t) m ≡ gate_in t m
+reshape-gate used Gets m lt t (Gate i g) e = cond-other i m (Some g) (gate_in t m) (λ is. omega (arith, lt, e, is))
+reshape-gate used Gets m lt t _ e = refl
+
+-- after writes that leave the gates of the maps that were handed out
+module _ (P : Trail → Write → Type 0) (unused : UnusedSaysNothing) (old new : View) (heap : IsHeap new) (adds : Adds P old.trail new.trail) (gates : (m : ℕ) → m < old.used.maps → (t : Trail) (w : Write) → P t w → gate_in (w ∷ t) m ≡ gate_in t m) where
   gate-same : (m : ℕ) → m < old.used.maps → gate_in new.trail m ≡ gate_in old.trail m
-  gate-same m lt = same-after (λ (t : Trail). gate_in t m) (gate-by old.used p m lt) adds
+  gate-same m lt = same-after (λ (t : Trail). gate_in t m) (gates m lt) adds
 
   opened-new : (m : ℕ) (g : GateWord) → gate_in old.trail m ≡ None → gate_in new.trail m ≡ Some g → m < old.used.maps → ⊥
   opened-new m g none gate lt = let n : None ≡ Some g = sym none ∙ sym (gate-same m lt) ∙ gate in let f : ⊥ = cc in f
 
   -- no map was handed out
-  pub opens-none : new.used.maps ≡ old.used.maps → OpensNoRoot old.trail new.trail
-  opens-none same m g none gate shared parent = opened-new m g none gate (subst (λ (n : ℕ). m < n) same (open-used unused new heap m g gate))
+  none-opens : new.used.maps ≡ old.used.maps → OpensNoRoot old.trail new.trail
+  none-opens same m g none gate shared parent = opened-new m g none gate (subst (λ (n : ℕ). m < n) same (open-used unused new heap m g gate))
 
   -- one map was handed out, which is private or a child
-  pub opens-one : new.used.maps ≡ old.used.maps + 1 → ((g : GateWord) → gate_in new.trail old.used.maps ≡ Some g → g.is_private ≡ false → parent_in new.trail old.used.maps ≡ Some None → ⊥) → OpensNoRoot old.trail new.trail
-  opens-one more fine m g none gate shared parent = same-or m old.used.maps ⊥
+  one-opens : new.used.maps ≡ old.used.maps + 1 → ((g : GateWord) → gate_in new.trail old.used.maps ≡ Some g → g.is_private ≡ false → parent_in new.trail old.used.maps ≡ Some None → ⊥) → OpensNoRoot old.trail new.trail
+  one-opens more fine m g none gate shared parent = same-or m old.used.maps ⊥
       (λ is. fine g (subst (λ (x : ℕ). gate_in new.trail x ≡ Some g) is gate) shared (subst (λ (x : ℕ). parent_in new.trail x ≡ Some None) is parent))
       (λ other. opened-new m g none gate (let lt = open-used unused new heap m g gate in omega (arith, lt, more, other)))
+
+module _ (unused : UnusedSaysNothing) (old new : View) (p : Option ℕ) (heap : IsHeap new) (adds : Adds (MakesMap old.used p) old.trail new.trail) where
+  pub opens-none : new.used.maps ≡ old.used.maps → OpensNoRoot old.trail new.trail
+  opens-none = none-opens (MakesMap old.used p) unused old new heap adds (gate-by old.used p)
+
+  pub opens-one : new.used.maps ≡ old.used.maps + 1 → ((g : GateWord) → gate_in new.trail old.used.maps ≡ Some g → g.is_private ≡ false → parent_in new.trail old.used.maps ≡ Some None → ⊥) → OpensNoRoot old.trail new.trail
+  opens-one = one-opens (MakesMap old.used p) unused old new heap adds (gate-by old.used p)
+
+module _ (unused : UnusedSaysNothing) (old new : View) (Gets : ℕ → Detail → Type 0) (heap : IsHeap new) (adds : Adds (Reshapes old.used NoMap Gets) old.trail new.trail) where
+  pub reshapes-gate : (m : ℕ) → m < old.used.maps → gate_in new.trail m ≡ gate_in old.trail m
+  reshapes-gate = gate-same (Reshapes old.used NoMap Gets) unused old new heap adds (reshape-gate old.used Gets)
+
+  pub reshapes-none : new.used.maps ≡ old.used.maps → OpensNoRoot old.trail new.trail
+  reshapes-none = none-opens (Reshapes old.used NoMap Gets) unused old new heap adds (reshape-gate old.used Gets)
+
+  pub reshapes-one : new.used.maps ≡ old.used.maps + 1 → ((g : GateWord) → gate_in new.trail old.used.maps ≡ Some g → g.is_private ≡ false → parent_in new.trail old.used.maps ≡ Some None → ⊥) → OpensNoRoot old.trail new.trail
+  reshapes-one = one-opens (Reshapes old.used NoMap Gets) unused old new heap adds (reshape-gate old.used Gets)
 
 -- the child of a map isn't a root
 pub child-no-root : (t : Trail) (m c : ℕ) → parent_in t c ≡ Some (Some m) → parent_in t c ≡ Some None → ⊥

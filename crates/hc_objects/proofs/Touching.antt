@@ -8,7 +8,7 @@ use Rattle.hc_heap.specs.Kept.{Adds}
 use Rattle.hc_heap.specs.Frames.{adds-none, adds-one, adds-on, adds-wider}
 use Rattle.hc_heap.specs.States.{View}
 use Rattle.hc_tree.specs.Growth.{MakesMap, marked, root_of, with_root, with_named_root}
-use Rattle.hc_objects.specs.State.{Owns}
+use Rattle.hc_slots.specs.Slots.{Owns}
 use Rattle.hc_objects.specs.Changes.{Touches, Changed}
 
 module _ (old : View) (o : ℕ) where

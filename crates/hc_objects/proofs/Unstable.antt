@@ -10,13 +10,16 @@ use Rattle.hc_heap.specs.States.{View, IsHeap}
 use Rattle.hc_tree.specs.Tree.{IsTree}
 use Rattle.hc_tree.specs.Kept.{MapsAreKept}
 use Rattle.hc_tree.specs.Growth.{marked}
-use Rattle.hc_objects.specs.Meaning.{Dictionary, kept_of, object_shown, world}
-use Rattle.hc_objects.specs.State.{AreHandedOut, HasMap, IsIn, IsObjects}
+use Rattle.hc_slots.specs.Meaning.{Dictionary, object_shown}
+use Rattle.hc_objects.specs.Meaning.{kept_of, world}
+use Rattle.hc_slots.specs.Slots.{AreHandedOut, IsIn}
+use Rattle.hc_slots.specs.Fast.{HasMap}
+use Rattle.hc_objects.specs.State.{IsObjects}
 use Rattle.hc_objects.specs.Changes.{Stepped, WordsStay}
 use Rattle.hc_objects.proofs.Left.{marked-same}
 use Rattle.hc_objects.proofs.Owning.{alone-still}
 use Rattle.hc_objects.proofs.Prototypes.{same-world, same-sound}
-use Rattle.hc_objects.proofs.Rising.{not-both}
+use Rattle.hc_slots.specs.Cases.{not-both}
 use Rattle.hc_objects.proofs.Staying.{IsLater, later, object-stays, kept-still}
 use Rattle.hc_objects.proofs.Touching.{map-marked}
 use Rattle.hc_objects.proofs.Writing.{has-map}

@@ -2,9 +2,9 @@
 use Rattle.std.proofs.Common.{◌≡◌, ◌≢◌, ℕ, ◌+◌, ◌<◌, List, Option, None, length, set, ap, ◌∙◌}
 use Rattle.hc_heap.specs.Writes.{Trail}
 use Rattle.hc_table.specs.World.{Object, object, new_object, with_object}
-use Rattle.hc_objects.specs.Listed.{listed}
-use Rattle.hc_objects.specs.Meaning.{Dictionary, object_at, world}
-use Rattle.hc_objects.proofs.Listed.{length-listed, get_or-listed, listed-same, listed-set, listed-more}
+use Rattle.hc_slots.specs.Listed.{listed, length-listed, get_or-listed, listed-same, listed-set, listed-more}
+use Rattle.hc_slots.specs.Meaning.{Dictionary}
+use Rattle.hc_objects.specs.Meaning.{object_at, world}
 
 pub length-world : (t : Trail) (kept : List (Option Dictionary)) → length (world t kept) ≡ length kept
 length-world t kept = length-listed (object_at t kept) (length kept)

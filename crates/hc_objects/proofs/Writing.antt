@@ -8,23 +8,24 @@ use Rattle.hc_value.specs.declared.prop.Kind.{Kind}
 use Rattle.hc_heap.specs.Writes.{Slot}
 use Rattle.hc_heap.specs.Readings.{store_in}
 use Rattle.hc_heap.specs.Lawful.{IsFormOf, key_from, field_from}
-use Rattle.hc_value.specs.declared.field.Detail.{Detail}
 use Rattle.hc_heap.specs.Kept.{DetailsRise, GatesAreOpen, UnusedSaysNothing}
 use Rattle.hc_heap.specs.States.{View, IsHeap, with_write}
-use Rattle.hc_descs.specs.Entries.{key_at, field_at, entries_in, count_of}
-use Rattle.hc_tree.specs.Tree.{tagged_field}
+use Rattle.hc_descs.specs.Entries.{key_at, field_at, entries_in, count_of, detail_of, detail_at}
+use Rattle.hc_tree.specs.Tree.{IsNarrow}
 use Rattle.hc_tree.specs.Kept.{MapsAreKept, TreesStay}
-use Rattle.hc_tree.specs.Copying.{detail_of, detail_at}
 use Rattle.hc_table.specs.Changes.{Wrote, kind_at}
 use Rattle.hc_table.specs.Ranges.{IsHeldInRange}
 use Rattle.hc_table.specs.Kept.{IsKept, ChangesKeep, with_world}
 use Rattle.hc_table.specs.World.{Object, World, object, props_at, with_list, held_at, with_written}
-use Rattle.hc_objects.specs.Meaning.{Dictionary, held_in, kept_of, fast_object, fast_props, world}
-use Rattle.hc_objects.specs.State.{HasMap, IsKeptSo, IsObjects, tables_of}
+use Rattle.hc_slots.specs.Meaning.{Dictionary, held_in, fast_object, fast_props}
+use Rattle.hc_objects.specs.Meaning.{kept_of, world}
+use Rattle.hc_slots.specs.Fast.{HasMap}
+use Rattle.hc_objects.specs.State.{IsKeptSo, IsObjects, tables_of}
 use Rattle.hc_objects.specs.Changes.{Stepped}
-use Rattle.hc_objects.proofs.Reading.{EntryIs, entry-is}
+use Rattle.hc_slots.specs.Entries.{EntryIs, entry-is}
 use Rattle.hc_objects.proofs.Places.{place-fast, kind-fast}
 use Rattle.hc_objects.proofs.Operations.{object-fast, written-step}
+use Rattle.hc_objects.proofs.Rising.{form-between, held-between, not-wide}
 use Rattle.hc_objects.proofs.Stepping.{stepped-world, stepped-sound, set-same}
 
 -- a fast object has a map, which says what it is
@@ -76,11 +77,14 @@ module _ (laws : Laws) (old : View) (kept : List (Option Dictionary)) (of_null :
     field-here : field_at old.trail so.map i ≡ Some entry.field
     field-here = ap (λ (b : Option ℕ). field_from old.trail b i) entry.is_base ∙ entry.is_field
 
-    admits-all : detail_at old.trail so.map i ≡ Some tagged_field
-    admits-all = ap (detail_of old.trail) field-here ∙ (entry.admits ∙ ap (λ (d : Detail). Some d) (h.tree.plain entry.field entry.detail entry.admits))
+    admits-so : detail_at old.trail so.map i ≡ Some entry.detail
+    admits-so = ap (detail_of old.trail) field-here ∙ entry.admits
+
+    narrow : IsNarrow entry.detail
+    narrow = h.tree.narrow entry.field entry.detail entry.admits
 
     kinds : entry.key.kind ≡ kind_of held
-    kinds = kind-fast old.trail o so.map i (kind_of held) entry.key tagged_field key-here admits-all kind-here
+    kinds = kind-fast old.trail o so.map i (kind_of held) entry.key entry.detail key-here admits-so kind-here
 
     module _ (word : ℕ) (form : IsFormOf (kind_of held) Tagged word) (holds : held_in (kind_of held) Tagged word ≡ held) where
       step-by : (new : View) (first : ℕ) → (store_in old.trail o).first ≡ Some first → new ≡ with_write old (Slot (first + i) word) → IsHeap new
@@ -88,9 +92,9 @@ module _ (laws : Laws) (old : View) (kept : List (Option Dictionary)) (of_null :
       step-by new first is e heap =
           let x : Object = with_list (fast_object old.trail o so.map) (held_at (fast_props old.trail o so.map) i held) in
           subst (λ (v : View). Stepped old v None o x) (sym e)
-          (written-step laws.maps laws.details laws.trees laws.unused old kept of_null h o so i first word entry.key tagged_field held (subst IsHeap e heap) place is key-here admits-all
-          (subst (λ (k : Kind). IsFormOf k Tagged word) (sym kinds) form)
-          (subst (λ (k : Kind). held_in k Tagged word ≡ held) (sym kinds) holds))
+          (written-step laws.maps laws.details laws.trees laws.unused old kept of_null h o so i first word entry.key entry.detail held (subst IsHeap e heap) place is key-here admits-so
+          (form-between entry.key.kind Tagged entry.detail.rep word not-wide narrow (subst (λ (k : Kind). IsFormOf k Tagged word) (sym kinds) form))
+          (held-between entry.key.kind entry.detail.rep Tagged word narrow not-wide ∙ subst (λ (k : Kind). held_in k Tagged word ≡ held) (sym kinds) holds))
 
       pub write-steps : (new : View) → IsSomeAnd (store_in old.trail o).first (λ first. new ≡ with_write old (Slot (first + i) word)) → IsHeap new
           → Stepped old new None o (with_list (fast_object old.trail o so.map) (held_at (fast_props old.trail o so.map) i held))

@@ -15,12 +15,10 @@ use Rattle.hc_value.specs.declared.prop.Kind.TheVariants.{DataProp, AccessorProp
 use Rattle.hc_value.specs.declared.prop.Prop.{Prop}
 use Rattle.hc_heap.specs.Writes.{Trail}
 use Rattle.hc_heap.specs.Readings.{gate_in, prototype_in}
-use Rattle.hc_descs.specs.Entries.{key_at, count_of, entries_in}
-use Rattle.hc_tree.specs.Copying.{detail_at}
+use Rattle.hc_descs.specs.Entries.{key_at, count_of, entries_in, detail_at}
 use Rattle.hc_table.specs.World.{Object, holding, held_at, with_list}
-use Rattle.hc_objects.specs.Listed.{listed}
-use Rattle.hc_objects.specs.Meaning.{held_in, datum_of, pair_of, prop_of, prop_in, slot_word, proto_of, is_extensible, fast_props, fast_object}
-use Rattle.hc_objects.proofs.Listed.{listed-same}
+use Rattle.hc_slots.specs.Listed.{listed, listed-same}
+use Rattle.hc_slots.specs.Meaning.{held_in, datum_of, pair_of, prop_of, prop_in, slot_word, proto_of, is_extensible, fast_props, fast_object}
 use Rattle.hc_objects.proofs.Staying.{IsLater, prop-stays, gate-stays, proto-stays}
 
 -- a value's word holds the value, a pair's the pair

@@ -15,7 +15,8 @@ use Rattle.hc_table.specs.Changes.{Moved}
 use Rattle.hc_table.specs.World.{object}
 use Rattle.hc_objects.specs.Came.{Steps, world_of}
 use Rattle.hc_objects.specs.Changes.{Changed, KeptBut, OpensNoRoot}
-use Rattle.hc_objects.specs.Meaning.{Dictionary, cause_in, dictionary_object, kept_of}
+use Rattle.hc_slots.specs.Meaning.{Dictionary, dictionary_object}
+use Rattle.hc_objects.specs.Meaning.{cause_in, kept_of}
 use Rattle.hc_objects.specs.Modes.{Becomes, if_fast, proto_need}
 use Rattle.hc_objects.specs.State.{ObjectsState}
 

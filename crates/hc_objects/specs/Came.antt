@@ -8,7 +8,7 @@ use Rattle.hc_value.specs.declared.prop.Prop.{Prop}
 use Rattle.hc_value.specs.declared.reply.Cause.{Cause}
 use Rattle.hc_value.specs.declared.reply.Cause.TheVariants.{Deleted, Many, Reconfigured, Space}
 use Rattle.hc_heap.specs.Lawful.{Lawful}
-use Rattle.hc_heap.specs.Readings.{map_in, root_in}
+use Rattle.hc_heap.specs.Readings.{bits_in, map_in, root_in}
 use Rattle.hc_heap.specs.States.{Goes, View}
 use Rattle.hc_heap.specs.Writes.{Trail}
 use Rattle.hc_tree.specs.Growth.{marked}
@@ -16,7 +16,7 @@ use Rattle.hc_tree.specs.Needs.{HasSpace, with_need}
 use Rattle.hc_table.specs.World.{World, props_at}
 use Rattle.hc_table.specs.Changes.{Did, Nothing, Moved, Created, Added, Wrote, Reconfigured as Changed, Removed, Linked, Locked, Restricted, after}
 use Rattle.hc_objects.specs.Meaning.{cause_in, world}
-use Rattle.hc_objects.specs.Rest.{Marks, StartsByMark}
+use Rattle.hc_objects.specs.Rest.{AreLone, Marks, MarksNew, Relinks}
 use Rattle.hc_objects.specs.State.{ObjectsState}
 use Rattle.hc_objects.specs.Modes.{Becomes, Modes, IsWithin, add_need, if_fast, need_of, proto_need}
 
@@ -68,9 +68,10 @@ pub record HasOwnCopy (old new : View) (p m : ℕ) : Type 0 where
   pub moved : map_in new.trail p ≡ Some old.used.maps
   pub copy : IsPrivateCopy true None proto new.trail old.used.maps m (count_of old.trail m) old.used.fields
 
--- how an object became a prototype: what it marks, and the copy that a fast one has
+-- how an object became a prototype: what it marks, that its map is stable, and the copy that a fast one has
 pub record HowBecame {P : Type 0} (a : ObjectsState P) (p : ℕ) (b : ObjectsState P) : Type 0 where
   pub marks : Marks a.heap.view.trail b.heap.view.trail p
+  pub own : (m : ℕ) → map_in b.heap.view.trail p ≡ Some m → (root_in a.heap.view.trail p).is_proto ≡ false → (bits_in b.heap.view.trail m).unstable ≡ false
   pub owns : (m : ℕ) → map_in a.heap.view.trail p ≡ Some m → (root_in a.heap.view.trail p).is_proto ≡ false → cause_in b.kept p ≡ None → HasOwnCopy a.heap.view b.heap.view p m
 
 -- an object became a prototype: where it was fast it has a private map, or is slow where there was no room for one; and no
@@ -84,6 +85,7 @@ pub record IsBecome {P : Type 0} (goes_with : P → List Access → List Access 
   pub others : (q : ℕ) → q ≢ p → cause_in b.kept q ≡ cause_in a.kept q
   pub how : HowBecame a p b
   pub lawful : Lawful b.heap.view.shape b.heap.view.trail
+  pub lone : AreLone b.heap.view.trail
 
 -- why a fast object may leave its map where no change follows: it was to get a property, and has as many as it can, or there is no
 -- room for one more
@@ -115,10 +117,18 @@ abbrev pub AreMoves : {P : Type 0} → (P → List Access → List Access → P 
 AreMoves went a [] b = IsStill a b
 AreMoves {P} went a (move ∷ moves) b = (mid : ObjectsState P) × IsMove went a move mid × AreMoves went mid moves b
 
+-- no map is left that was made unstable, and that its object has still
+abbrev pub MayEnd : List Move → Type 0
+MayEnd [] = ⊤
+MayEnd (Marked o ∷ moves) = ⊥
+MayEnd (Became p ∷ moves) = MayEnd moves
+MayEnd (Left o cause ∷ moves) = MayEnd moves
+
 -- moves and nothing else; so far it is one at most
 pub record Moves {P : Type 0} (goes_with : P → List Access → List Access → P → Type 0) (a b : ObjectsState P) : Type 0 where
   pub moves : List Move
   pub few : length moves ≤ 1
+  pub ends : MayEnd moves
   pub are : AreMoves goes_with a moves b
 
 -- Operations
@@ -146,11 +156,12 @@ moves_before a _ = []
 
 -- what an operation on one object makes unstable
 abbrev pub MarksOf : Did → Trail → Trail → Type 0
+MarksOf (Created proto) old new = MarksNew old new
 MarksOf (Added o p) old new = Marks old new o
 MarksOf (Wrote o i held) old new = Marks old new o
 MarksOf (Changed o i p) old new = Marks old new o
 MarksOf (Removed o i) old new = Marks old new o
-MarksOf (Linked o proto) old new = StartsByMark old new o
+MarksOf (Linked o proto) old new = Relinks old new o proto
 MarksOf (Locked o) old new = Marks old new o
 MarksOf (Restricted o frozen) old new = Marks old new o
 MarksOf _ old new = ⊤

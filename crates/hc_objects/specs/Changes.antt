@@ -1,5 +1,5 @@
 -- What an operation on one object writes, and what it leaves.
-use Rattle.std.specs.Prelude.{◌≡◌, ◌≢◌, ℕ, ◌+◌, ◌<◌, ◌≤◌, false, Option, Some, None, List, length}
+use Rattle.std.specs.Prelude.{◌≡◌, ◌≢◌, ℕ, ◌+◌, ◌<◌, ◌≤◌, false, Option, Some, List, length}
 use Rattle.hc_layout.specs.declared.words.GateWord.{GateWord}
 use Rattle.hc_layout.specs.declared.words.RootWord.{RootWord}
 use Rattle.hc_value.specs.Prop.{kind_of}
@@ -8,17 +8,18 @@ use Rattle.hc_value.specs.declared.key.Key.{Key}
 use Rattle.hc_value.specs.declared.prop.Held.{Held}
 use Rattle.hc_value.specs.declared.prop.Prop.{Prop}
 use Rattle.hc_heap.specs.Writes.{Write, Trail, Bits, ObjectMap, Root, Store, Slot}
-use Rattle.hc_heap.specs.Readings.{gate_in, parent_in, prototype_in, bits_in, map_in, root_in, store_in, slot_in}
+use Rattle.hc_heap.specs.Readings.{gate_in, prototype_in, bits_in, map_in, root_in, store_in, slot_in}
 use Rattle.hc_heap.specs.Kept.{Adds}
 use Rattle.hc_heap.specs.States.{View, IsHeap}
-use Rattle.hc_descs.specs.Entries.{key_at}
+use Rattle.hc_descs.specs.Entries.{key_at, detail_at}
 use Rattle.hc_descs.specs.Copies.{HasEntriesOf}
 use Rattle.hc_tree.specs.Tree.{IsTree}
-use Rattle.hc_tree.specs.Copying.{detail_at}
 pub use Rattle.hc_tree.specs.Walking.{OpensNoRoot}
 use Rattle.hc_table.specs.World.{Object}
-use Rattle.hc_objects.specs.Meaning.{Dictionary, kept_of, slot_word, object_shown}
-use Rattle.hc_objects.specs.State.{Owns, AreHandedOut, IsKeptSo}
+use Rattle.hc_slots.specs.Meaning.{Dictionary, object_shown}
+use Rattle.hc_objects.specs.Meaning.{kept_of}
+use Rattle.hc_slots.specs.Slots.{Owns, AreHandedOut}
+use Rattle.hc_objects.specs.State.{IsKeptSo}
 
 -- a root word after which only o may have become a prototype, and a root that was named stays
 pub record KeepsRoot (o : ℕ) (t : Trail) (p : ℕ) (r : RootWord) : Type 0 where
@@ -82,38 +83,9 @@ pub record IsGrown (t : Trail) (m c n : ℕ) (key : Key) (detail : Detail) : Typ
   pub last : key_at t c n ≡ Some key
   pub admits : detail_at t c n ≡ Some detail
 
--- the words of an object's first n slots are as they were, wherever its slots are
-abbrev pub SlotsStay : Trail → Trail → ℕ → ℕ → Type 0
-SlotsStay old new o n = (k : ℕ) → k < n → slot_word new o k ≡ slot_word old o k
-
 -- an operation on an object, which is kept so afterwards, made this of it
 pub record Stepped (old new : View) (item : Option Dictionary) (o : ℕ) (x : Object) : Type 0 where
   pub changed : Changed old new o
   pub well : IsWell old new item o
   pub opens : OpensNoRoot old.trail new.trail
   pub value : object_shown new.trail o item (map_in new.trail o) ≡ x
-
--- writes of slots, from a first one on
-abbrev pub FillsSlots : ℕ → Trail → Write → Type 0
-FillsSlots first t (Slot s w) = first ≤ s
-FillsSlots first t _ = ⊥
-
--- the words of n slots were copied to others, and slots before these stay
-pub record AreCopied (old new : Trail) (from upto n : ℕ) : Type 0 where
-  pub words : (k : ℕ) → k < n → slot_in new (upto + k) ≡ slot_in old (from + k)
-  pub writes : Adds (FillsSlots upto) old new
-
--- writes that give an object new slots, from a first one on
-abbrev pub GrowsStore : ℕ → ℕ → Trail → Write → Type 0
-GrowsStore o first t (Slot s w) = first ≤ s
-GrowsStore o first t (Store p w) = p ≡ o
-GrowsStore o first t _ = ⊥
-
--- an object got new slots, more than n, with the words of its first n slots
-pub record HasMoved (old new : View) (o n capacity : ℕ) : Type 0 where
-  pub more : n < capacity
-  pub store : store_in new.trail o ≡ record { capacity = capacity; first = Some old.used.slots }
-  pub words : SlotsStay old.trail new.trail o n
-  pub writes : Adds (GrowsStore o old.used.slots) old.trail new.trail
-  pub used : new.used ≡ record old.used { slots = old.used.slots + capacity }
-  pub shape : new.shape ≡ old.shape

@@ -1,8 +1,8 @@
 -- How an object without properties is made: slow at first, and fast where there is room for the root of its prototype.
-use Rattle.std.specs.Prelude.{◌≡◌, ℕ, ◌+◌, Option, Some, List, length}
+use Rattle.std.specs.Prelude.{◌≡◌, ℕ, ◌+◌, Option, Some, None, List, length}
 use Rattle.hc_board.specs.Trail.{Access}
 use Rattle.hc_value.specs.declared.reply.Cause.TheVariants.{Space}
-use Rattle.hc_heap.specs.Readings.{root_in}
+use Rattle.hc_heap.specs.Readings.{map_in, root_in}
 use Rattle.hc_tree.specs.Growth.{root_of, root_need}
 use Rattle.hc_tree.specs.Needs.{HasSpace, with_need}
 use Rattle.hc_table.specs.Changes.{Created, Moved}
@@ -11,6 +11,7 @@ use Rattle.hc_objects.specs.Came.{Steps, world_of}
 use Rattle.hc_objects.specs.Changes.{KeptBut}
 use Rattle.hc_objects.specs.Meaning.{cause_in}
 use Rattle.hc_objects.specs.Modes.{StaysFast, if_fast}
+use Rattle.hc_objects.specs.Rest.{Marks}
 use Rattle.hc_objects.specs.State.{ObjectsState}
 
 -- a slow object was made
@@ -30,3 +31,5 @@ pub record IsEntered {P : Type 0} (goes_with : P → List Access → List Access
   pub used : b.heap.view.used ≡ with_need (if_fast (cause_in b.kept o) (root_need (root_of a.heap.view.trail proto a.of_null))) a.heap.view.used
   pub protos : (q : ℕ) → (root_in b.heap.view.trail q).is_proto ≡ (root_in a.heap.view.trail q).is_proto
   pub others : KeptBut o a.kept b.kept
+  pub none : map_in a.heap.view.trail o ≡ None
+  pub marks : Marks a.heap.view.trail b.heap.view.trail o

@@ -1,6 +1,5 @@
 -- How an object's slots are filled, and how it comes to a map with one entry more.
-use Rattle.std.specs.Prelude.{◌≡◌, ◌≢◌, ℕ, ◌+◌, ◌<◌, ◌≤◌, nat_lt, false, Some, if◌then◌else◌}
-use Rattle.hc_layout.specs.Capacity.{cap_of}
+use Rattle.std.specs.Prelude.{◌≡◌, ◌≢◌, ℕ, ◌+◌, ◌<◌, false, Some}
 use Rattle.hc_layout.specs.declared.shape.Region.TheVariants.{Slots}
 use Rattle.hc_layout.specs.declared.shape.Shape.{Shape}
 use Rattle.hc_layout.specs.declared.words.StoreWord.{StoreWord}
@@ -8,40 +7,19 @@ use Rattle.hc_value.specs.Prop.{kind_of}
 use Rattle.hc_value.specs.declared.field.Rep.TheVariants.{Tagged}
 use Rattle.hc_value.specs.declared.key.Key.{Key}
 use Rattle.hc_value.specs.declared.prop.Prop.{Prop}
-use Rattle.hc_heap.specs.Writes.{Write, Trail, Store, Slot}
+use Rattle.hc_heap.specs.Writes.{Trail}
 use Rattle.hc_heap.specs.Readings.{map_in, root_in, store_in}
 use Rattle.hc_heap.specs.Lawful.{IsFormOf}
 use Rattle.hc_heap.specs.Kept.{Adds}
 use Rattle.hc_heap.specs.States.{View, HasRoom}
 use Rattle.hc_tree.specs.Growth.{child_need, live_child, marked}
 use Rattle.hc_tree.specs.Needs.{HasSpace, with_need}
-use Rattle.hc_tree.specs.Tree.{tagged_field}
-use Rattle.hc_objects.specs.Meaning.{held_in, slot_word}
-use Rattle.hc_objects.specs.State.{Owns, AreHandedOut}
+use Rattle.hc_value.specs.declared.field.Detail.{Detail}
+use Rattle.hc_tree.specs.Tree.{IsNarrow}
+use Rattle.hc_slots.specs.Meaning.{held_in, slot_word}
+use Rattle.hc_slots.specs.Slots.{Owns, AreHandedOut, SlotsStay, slots_need}
 use Rattle.hc_objects.specs.Rest.{MarksAt}
-use Rattle.hc_objects.specs.Changes.{Changed, OpensNoRoot, IsGrown, SlotsStay, key_of}
-
--- how many new slots an object needs that has n properties, and so many slots, to get one more
-abbrev pub slots_need : ℕ → ℕ → ℕ
-slots_need n capacity = if nat_lt n capacity then 0 else cap_of (n + 1)
-
--- writes to an object's store, and to slots that it owns or that are new
-abbrev pub FillsStore : View → ℕ → Trail → Write → Type 0
-FillsStore old o t (Store p w) = p ≡ o
-FillsStore old o t (Slot s w) = s < old.used.slots → Owns old.trail o s
-FillsStore old o t _ = ⊥
-
--- an object has room for more than n properties, and the words of its first n slots are as they were
-pub record IsFitted (old new : View) (o n : ℕ) : Type 0 where
-  pub writes : Adds (FillsStore old o) old.trail new.trail
-  pub shape : new.shape ≡ old.shape
-  pub used : new.used ≡ record old.used { slots = new.used.slots }
-  pub slots : old.used.slots ≤ new.used.slots
-  pub more : new.used.slots ≡ old.used.slots + slots_need n (store_in old.trail o).capacity
-  pub store : AreHandedOut new.used.slots (store_in new.trail o)
-  pub owns : (s : ℕ) → Owns new.trail o s → s < old.used.slots → Owns old.trail o s
-  pub room : n < (store_in new.trail o).capacity
-  pub words : SlotsStay old.trail new.trail o n
+use Rattle.hc_objects.specs.Changes.{Changed, OpensNoRoot, IsGrown, key_of}
 
 -- the counts after an object with n properties got slots for one more
 abbrev pub with_slots : StoreWord → ℕ → Shape → Shape
@@ -56,7 +34,9 @@ pub record IsMoved (old new : View) (o m n : ℕ) (p : Prop) : Type 0 where
   pub child : ℕ
   pub changed : Changed old new o
   pub opens : OpensNoRoot old.trail new.trail
-  pub grown : IsGrown new.trail m child n (key_of p) tagged_field
+  pub detail : Detail
+  pub narrow : IsNarrow detail
+  pub grown : IsGrown new.trail m child n (key_of p) detail
   pub shared : grown.gate.is_private ≡ false
   pub moved : map_in new.trail o ≡ Some child
   pub proto : (root_in new.trail o).is_proto ≡ (root_in old.trail o).is_proto

@@ -10,9 +10,10 @@ use Rattle.hc_table.specs.World.{Object}
 use Rattle.hc_objects.specs.Becoming.{IsSpare}
 use Rattle.hc_objects.specs.Came.{Steps}
 use Rattle.hc_objects.specs.Changes.{KeptBut}
-use Rattle.hc_objects.specs.Meaning.{Dictionary, cause_in, dictionary_object, kept_of}
+use Rattle.hc_slots.specs.Meaning.{Dictionary, dictionary_object}
+use Rattle.hc_objects.specs.Meaning.{cause_in, kept_of}
 use Rattle.hc_objects.specs.Modes.{Becomes, IsWithin, if_fast, link_need, proto_need}
-use Rattle.hc_objects.specs.Rest.{StartsByMark}
+use Rattle.hc_objects.specs.Rest.{Relinks}
 use Rattle.hc_objects.specs.State.{ObjectsState}
 
 -- the prototype that an operation names
@@ -78,4 +79,4 @@ pub record IsLinkedNow {P : Type 0} (goes_with : P → List Access → List Acce
   pub needs : IsWithin (link_need a.heap.view.trail o proto a.of_null) a.heap.view.used b.heap.view.used
   pub protos : (q : ℕ) → (root_in b.heap.view.trail q).is_proto ≡ (root_in a.heap.view.trail q).is_proto
   pub others : KeptBut o a.kept b.kept
-  pub starts : StartsByMark a.heap.view.trail b.heap.view.trail o
+  pub relinks : Relinks a.heap.view.trail b.heap.view.trail o proto

@@ -67,8 +67,9 @@ module _ {P : Type 0} (went : P → List Access → List Access → P → Type 0
     proto = h.proto;
     protos = h.protos;
     others = h.others;
-    how = record { marks = h.how.marks; owns = h.how.owns };
+    how = record { marks = h.how.marks; own = h.how.own; owns = h.how.owns };
     lawful = h.lawful;
+    lone = h.lone;
   }
 
   why-from : (a : ObjectsState P) (o : ℕ) (cause : Cause) (n : ℕ) → MayLeave (with_loads a n) o cause → MayLeave a o cause
@@ -175,10 +176,10 @@ module _ {P : Type 0} (went : P → List Access → List Access → P → Type 0
   moves-after a b c (move ∷ moves) x y = (x.0, x.1, moves-after x.0 b c moves x.2 y)
 
   pub moved-before : (a b c : ObjectsState P) → IsStill a b → Moves went b c → Moves went a c
-  moved-before a b c x y = record { moves = y.moves; few = y.few; are = moves-before a b c y.moves x y.are }
+  moved-before a b c x y = record { moves = y.moves; few = y.few; ends = y.ends; are = moves-before a b c y.moves x y.are }
 
   moved-after : (a b c : ObjectsState P) → Moves went a b → IsStill b c → Moves went a c
-  moved-after a b c x y = record { moves = x.moves; few = x.few; are = moves-after a b c x.moves x.are y }
+  moved-after a b c x y = record { moves = x.moves; few = x.few; ends = x.ends; are = moves-after a b c x.moves x.are y }
 
   link-same : (a : ObjectsState P) (o : ℕ) (proto : Option ℕ) (n : ℕ) → moves_to_link (with_loads a n) o proto ≡ moves_to_link a o proto
   link-same a o (Some p) n = refl

@@ -1,7 +1,7 @@
-pub mod Listed
 pub mod Meaning
 pub mod State
 pub mod Changes
+pub mod Admitting
 pub mod Rest
 pub mod Filling
 pub mod Modes
@@ -14,3 +14,4 @@ pub mod Inheriting
 pub mod Laws
 pub mod Creating
 pub mod Spent
+pub mod Slow

@@ -1,8 +1,9 @@
 -- How an object with a shared map gets another prototype.
-use Rattle.std.specs.Prelude.{◌≡◌, ℕ, Option, Some, List, ◌++◌}
+use Rattle.std.specs.Prelude.{◌≡◌, ◌≢◌, ℕ, false, IsTrue, Option, Some, List, [], ◌++◌}
 use Rattle.hc_heap.specs.Writes.{Write}
-use Rattle.hc_heap.specs.Readings.{map_in, root_in, store_in, slot_in}
+use Rattle.hc_heap.specs.Readings.{bits_in, map_in, root_in, store_in, slot_in}
 use Rattle.hc_heap.specs.States.{View}
+use Rattle.hc_links.specs.Chains.{links_in}
 use Rattle.hc_tree.specs.Growth.{marked}
 pub use Rattle.hc_tree.specs.Walking.{GrowsTree, HasMapFor, IsLike, shared_need}
 use Rattle.hc_objects.specs.State.{AreRoots}
@@ -24,3 +25,4 @@ pub record IsRelinked (old new : View) (null then_null : Option ℕ) (o m n : �
   pub words : (s : ℕ) → slot_in new.trail s ≡ slot_in old.trail s
   pub more : List Write
   pub after : new.trail ≡ more ++ marked old.trail m
+  pub marks : (x : ℕ) → x ≢ m → (bits_in old.trail x).unstable ≡ false → IsTrue (bits_in new.trail x).unstable → links_in new.trail x ≢ []

@@ -1,8 +1,6 @@
 -- Which objects an operation makes slow, and why; what it needs of each region; and which objects are alike.
-use Rattle.std.specs.Prelude.{◌≡◌, ◌≢◌, ◌↔◌, ℕ, zero, suc, ◌+◌, ◌≤◌, Bool, true, false, ◌<◌, ◌==◌, ◌&&◌, not, nat_lt, Option, Some, None, option_map, IfSome, IsSomeAnd, if◌then◌else◌, List, length, map, slice_get, ⊤}
-use Rattle.hc_layout.specs.Capacity.{cap_of}
+use Rattle.std.specs.Prelude.{◌≡◌, ◌≢◌, ◌↔◌, ℕ, suc, Bool, true, false, ◌<◌, ◌==◌, ◌&&◌, not, nat_lt, Option, Some, None, option_map, IfSome, IsSomeAnd, if◌then◌else◌, List, length, map, slice_get, ⊤}
 use Rattle.hc_layout.specs.declared.capacity.TheConstants.{MAX_FAST}
-use Rattle.hc_layout.specs.declared.shape.Shape.{Shape}
 use Rattle.hc_value.specs.declared.key.Key.{Key}
 use Rattle.hc_value.specs.declared.prop.Prop.{Prop}
 use Rattle.hc_value.specs.declared.reply.Cause.{Cause}
@@ -21,8 +19,9 @@ use Rattle.hc_tree.specs.Tree.{tagged_field}
 use Rattle.hc_table.specs.Changes.{Did, Nothing, Moved, Created, Added, Wrote, Reconfigured as Changed, Removed, Linked, Locked, Restricted}
 use Rattle.hc_table.specs.World.{object, props_at}
 use Rattle.hc_objects.specs.Changes.{key_of}
-use Rattle.hc_objects.specs.Filling.{slots_need}
-use Rattle.hc_objects.specs.Meaning.{Dictionary, cause_in, world}
+use Rattle.hc_slots.specs.Slots.{slots_need}
+use Rattle.hc_slots.specs.Meaning.{Dictionary}
+use Rattle.hc_objects.specs.Meaning.{cause_in, world}
 use Rattle.hc_objects.specs.State.{ObjectsState}
 
 -- Needs

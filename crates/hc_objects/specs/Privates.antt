@@ -2,6 +2,7 @@
 use Rattle.std.specs.Prelude.{◌≡◌, ℕ, ◌<◌, Bool, true, false, IsTrue, Option, Some, None}
 use Rattle.hc_value.specs.Prop.{kind_of}
 use Rattle.hc_value.specs.declared.field.Rep.TheVariants.{Tagged}
+use Rattle.hc_value.specs.declared.field.Detail.{Detail}
 use Rattle.hc_value.specs.declared.key.Key.{Key}
 use Rattle.hc_value.specs.declared.prop.Prop.{Prop}
 use Rattle.hc_heap.specs.Writes.{Trail}
@@ -9,18 +10,17 @@ use Rattle.hc_heap.specs.Readings.{bits_in, gate_in, map_in, prototype_in, root_
 use Rattle.hc_heap.specs.Lawful.{IsFormOf, IsOwnMap}
 use Rattle.hc_heap.specs.Kept.{Adds}
 use Rattle.hc_heap.specs.States.{View, IsHeap}
-use Rattle.hc_descs.specs.Entries.{count_of, key_at}
+use Rattle.hc_descs.specs.Entries.{count_of, key_at, detail_at}
 use Rattle.hc_tree.specs.declared.need.Need.{Need}
-use Rattle.hc_tree.specs.Copying.{IsPrivateCopy, More, copy_need, detail_at}
+use Rattle.hc_tree.specs.Copying.{IsPrivateCopy, More, copy_need}
 use Rattle.hc_tree.specs.Growth.{MakesMap, marked}
 use Rattle.hc_tree.specs.Needs.{no_need, with_need}
-use Rattle.hc_tree.specs.Tree.{IsTree, gate_with, tagged_field}
-use Rattle.hc_objects.specs.Changes.{Changed, IsGrown, OpensNoRoot, SlotsStay, key_of}
-use Rattle.hc_objects.specs.Filling.{slots_need}
-use Rattle.hc_objects.specs.Meaning.{held_in, slot_word}
+use Rattle.hc_tree.specs.Tree.{IsNarrow, IsTree, gate_with, tagged_field}
+use Rattle.hc_objects.specs.Changes.{Changed, IsGrown, OpensNoRoot, key_of}
+use Rattle.hc_slots.specs.Slots.{SlotsStay, slots_need, AreHandedOut, Owns}
+use Rattle.hc_slots.specs.Meaning.{held_in, slot_word}
 use Rattle.hc_objects.specs.Rest.{MarksAt}
 use Rattle.hc_objects.specs.Modes.{IsWithin, both}
-use Rattle.hc_objects.specs.State.{AreHandedOut, Owns}
 
 -- what one property more needs, of an object with n properties and a private map: a copy of the map with one entry more, and slots
 abbrev pub private_need : Key → ℕ → ℕ → Need
@@ -55,13 +55,17 @@ pub record IsMovedToCopy (fresh : Bool) (old new : View) (o m n : ℕ) (proto : 
   pub store : store_in new.trail o ≡ store_in old.trail o
   pub words : SlotsStay old.trail new.trail o n
   pub used : new.used ≡ with_need (copy_need fresh None n) old.used
+  pub younger : m < old.used.maps
+  pub stable : (bits_in new.trail old.used.maps).unstable ≡ false
   pub after : Adds (MarksAt m) (marked old.trail m) new.trail
 
 -- an object came from a map with n entries to a private one that has one more, and its slot holds what the property does
 pub record IsGrownAlone (old new : View) (o m n : ℕ) (p : Prop) : Type 0 where
   pub changed : Changed old new o
   pub opens : OpensNoRoot old.trail new.trail
-  pub grown : IsGrown new.trail m old.used.maps n (key_of p) tagged_field
+  pub detail : Detail
+  pub narrow : IsNarrow detail
+  pub grown : IsGrown new.trail m old.used.maps n (key_of p) detail
   pub private : IsTrue grown.gate.is_private
   pub moved : map_in new.trail o ≡ Some old.used.maps
   pub roots : (q : ℕ) → root_in new.trail q ≡ root_in old.trail q

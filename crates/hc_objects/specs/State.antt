@@ -1,15 +1,16 @@
 -- What contracts see of objects, and what holds of them at every moment.
-use Rattle.std.specs.Prelude.{◌≡◌, ℕ, ◌+◌, ◌<◌, ◌≤◌, false, IsTrue, Option, Some, None, IsSome, IfSome, IsSomeAnd, List, length}
+use Rattle.std.specs.Prelude.{◌≡◌, ℕ, ◌<◌, false, IsTrue, Option, Some, None, List, length}
 use Rattle.hc_layout.specs.declared.words.GateWord.{GateWord}
-use Rattle.hc_layout.specs.declared.words.StoreWord.{StoreWord}
 use Rattle.hc_heap.specs.Writes.{Trail}
-use Rattle.hc_heap.specs.Readings.{gate_in, parent_in, prototype_in, bits_in, map_in, root_in, store_in}
-use Rattle.hc_heap.specs.Lawful.{HoldsEntries}
+use Rattle.hc_heap.specs.Readings.{gate_in, bits_in, map_in, store_in}
 use Rattle.hc_heap.specs.States.{View, HeapState, IsHeap}
 use Rattle.hc_table.specs.Kept.{Kept, IsKept}
 use Rattle.hc_tree.specs.Tree.{IsTree}
 pub use Rattle.hc_tree.specs.Walking.{AreRoots}
-use Rattle.hc_objects.specs.Meaning.{Dictionary, kept_of, world}
+use Rattle.hc_slots.specs.Meaning.{Dictionary}
+use Rattle.hc_objects.specs.Meaning.{kept_of, world}
+use Rattle.hc_slots.specs.Fast.{HasMap}
+use Rattle.hc_slots.specs.Slots.{Owns, AreHandedOut}
 
 -- objects: their heap, what is kept of slow ones, and the root of the maps that have no prototype
 pub record ObjectsState (P : Type 0) : Type 0 where
@@ -17,37 +18,10 @@ pub record ObjectsState (P : Type 0) : Type 0 where
   pub kept : List (Option Dictionary)
   pub of_null : Option ℕ
 
--- an object is fast with a map: the map is open, the object's slots hold what it asks, and it is private exactly
--- where the object is or was a prototype
-pub record IsFast (t : Trail) (o m : ℕ) (g : GateWord) : Type 0 where
-  pub is_open : gate_in t m ≡ Some g
-  pub holds : HoldsEntries t o m g
-  pub private : g.is_private ≡ (root_in t o).is_proto
-
--- some map with which an object is fast
-pub record HasMap (t : Trail) (o : ℕ) : Type 0 where
-  pub map : ℕ
-  pub gate : GateWord
-  pub is_map : map_in t o ≡ Some map
-  pub fast : IsFast t o map gate
-
 -- an object is kept as its words say: a slow one has no map, and a fast one has one that fits
 abbrev pub IsKeptSo : Trail → ℕ → Option Dictionary → Type 0
 IsKeptSo t o (Some d) = map_in t o ≡ None
 IsKeptSo t o None = HasMap t o
-
--- a slot is one of these
-abbrev pub IsIn : StoreWord → ℕ → Type 0
-IsIn w s = IsSomeAnd w.first (λ first. (first ≤ s) × (s < first + w.capacity))
-
--- a slot is an object's
-abbrev pub Owns : Trail → ℕ → ℕ → Type 0
-Owns t o s = IsIn (store_in t o) s
-
--- these slots were handed out
-pub record AreHandedOut (slots : ℕ) (w : StoreWord) : Type 0 where
-  pub first : 0 < w.capacity → IsSome w.first
-  pub there : IfSome w.first (λ first. first + w.capacity ≤ slots)
 
 -- no two objects have one private map
 abbrev pub AreAlone : Trail → ℕ → Type 0

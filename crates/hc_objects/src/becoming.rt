@@ -14,13 +14,13 @@ ghost use Rattle.hc_objects.specs.Came.{HowBecame, Steps, IsStill, world_of};
 ghost use Rattle.hc_objects.specs.Changes.{KeptBut};
 ghost use Rattle.hc_objects.specs.Meaning.{cause_in, kept_of};
 ghost use Rattle.hc_objects.specs.Modes.{Becomes, if_fast, proto_need};
-ghost use Rattle.hc_objects.specs.State.{HasMap};
+ghost use Rattle.hc_slots.specs.Fast.{HasMap};
 
-use crate::dictionary::Dictionary;
-use crate::fast::map_of;
 use crate::objects::Objects;
+use hc_dict::Dictionary;
 use hc_heap::{Heap, Pace, details_rise, forms_are_kept, gates_are_open, unused_says_nothing};
 use hc_layout::RootWord;
+use hc_slots::fast::map_of;
 use hc_tree::{has_space, maps_are_kept, mark_unstable, of_copy, private_copy, trees_stay};
 use hc_value::{Cause, Memory};
 

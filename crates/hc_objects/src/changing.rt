@@ -10,6 +10,7 @@ ghost use Rattle.hc_objects.specs.Meaning.{kept_of};
 ghost use Rattle.hc_objects.specs.Came.{IsStill, Made, Moves, Steps, world_of};
 
 use crate::objects::Objects;
+use hc_dict::Change;
 use hc_heap::Pace;
 use hc_value::{Cause, Memory, Prop};
 
@@ -69,7 +70,7 @@ impl<P: Pace> Objects<P> {
         ensures moved { OnErr result (Moves P.went self.old self.new) }
     {
         if self.is_slow(o) {
-            self.reconfigure_slow(o, i, p);
+            self.change_slow(o, Change::Put(i, p));
             return Ok(());
         }
         if self.has_key(o, i, &p) {
@@ -77,7 +78,7 @@ impl<P: Pace> Objects<P> {
             return Ok(());
         }
         self.leave(o, Cause::Reconfigured)?;
-        self.reconfigure_slow(o, i, p);
+        self.change_slow(o, Change::Put(i, p));
         Ok(())
     }
 
@@ -102,11 +103,11 @@ impl<P: Pace> Objects<P> {
         ensures moved { OnErr result (Moves P.went self.old self.new) }
     {
         if self.is_slow(o) {
-            self.lock_slow(o);
+            self.change_slow(o, Change::Lock);
             return Ok(());
         }
         self.leave(o, Cause::Reconfigured)?;
-        self.lock_slow(o);
+        self.change_slow(o, Change::Lock);
         Ok(())
     }
 
@@ -117,11 +118,11 @@ impl<P: Pace> Objects<P> {
         ensures moved { OnErr result (Moves P.went self.old self.new) }
     {
         if self.is_slow(o) {
-            self.restrict_slow(o, frozen);
+            self.change_slow(o, Change::Restrict(frozen));
             return Ok(());
         }
         self.leave(o, Cause::Reconfigured)?;
-        self.restrict_slow(o, frozen);
+        self.change_slow(o, Change::Restrict(frozen));
         Ok(())
     }
 }

@@ -11,9 +11,8 @@ ghost use Rattle.hc_objects.specs.Came.{Came, IsStill, Moves, world_of};
 ghost use Rattle.hc_objects.specs.Creating.{IsBegun, IsEntered};
 ghost use Rattle.hc_objects.specs.Meaning.{cause_in};
 
-use crate::dictionary::Dictionary;
 use crate::objects::Objects;
-use hc_dict::Dict;
+use hc_dict::{Dict, Dictionary};
 use hc_heap::{Pace, details_rise, unused_says_nothing};
 use hc_layout::Region;
 use hc_table::{TableFault, changes_keep};

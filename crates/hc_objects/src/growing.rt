@@ -7,19 +7,20 @@ ghost use Rattle.hc_heap.specs.Readings.{bits_in, gate_in, map_in, root_in, stor
 ghost use Rattle.hc_heap.specs.States.{IsHeap, Goes, HasRoom};
 ghost use Rattle.hc_descs.specs.Entries.{LacksName};
 ghost use Rattle.hc_tree.specs.Growth.{IsUnmoved};
-ghost use Rattle.hc_tree.specs.Tree.{IsTree, IsProperKey, gate_with, tagged_field};
-ghost use Rattle.hc_objects.specs.Changes.{IsGrown, key_of};
-ghost use Rattle.hc_objects.specs.Filling.{IsMoved, MayGrowBy, slots_need, with_growth, with_slots};
-ghost use Rattle.hc_objects.specs.State.{AreHandedOut};
+ghost use Rattle.hc_tree.specs.Tree.{IsTree, IsProperKey, gate_with};
+ghost use Rattle.hc_objects.specs.Admitting.{IsGrownBy};
+ghost use Rattle.hc_objects.specs.Changes.{key_of};
+ghost use Rattle.hc_objects.specs.Filling.{IsMoved, MayGrowBy, with_growth, with_slots};
+ghost use Rattle.hc_slots.specs.Slots.{slots_need, AreHandedOut};
 ghost use Rattle.hc_table.specs.Ranges.{IsHeldInRange};
 
-use crate::held::held_word;
-use crate::stores::{fill_next, slots_needed};
+use crate::admitting::detail_for_held;
 use hc_heap::{Heap, Pace, details_rise, unused_says_nothing};
 use hc_layout::Region;
 use hc_links::linked_are_unstable;
+use hc_slots::{fill_next, held_word, slots_needed};
 use hc_tree::{child_or_make, maps_are_kept, trees_stay};
-use hc_value::{Class, Constness, Detail, Key, Prop, Rep};
+use hc_value::{Constness, Key, Prop};
 
 // Fills the slot of an object's next property, and has the object come to a map with one entry more.
 fn move_to_child<P: Pace>(h: &mut Heap<P>, object: u32, map: u32, child: u32, n: u32, p: Prop)
@@ -31,7 +32,7 @@ fn move_to_child<P: Pace>(h: &mut Heap<P>, object: u32, map: u32, child: u32, n:
     requires holds { HoldsEntries h.old.view.trail object map (gate_with n false) }
     requires shared { (root_in h.old.view.trail object).is_proto ≡ false }
     requires child { gate_in h.old.view.trail child ≡ Some (gate_with (n + 1) false) }
-    requires grown { IsGrown h.old.view.trail map child n (key_of p) tagged_field }
+    requires grown { IsGrownBy h.old.view.trail map child n p }
     requires range { IsHeldInRange p.held }
     requires out { AreHandedOut h.old.view.used.slots (store_in h.old.view.trail object) }
     requires handed { object < h.old.view.used.objects }
@@ -48,17 +49,6 @@ fn move_to_child<P: Pace>(h: &mut Heap<P>, object: u32, map: u32, child: u32, n:
     h.stands();
     fill_next(h, object, n, held_word(p.held));
     h.set_object_map(object, Some(child));
-}
-
-// The field that admits everything.
-pub(crate) fn tagged_detail() -> Detail
-    ensures { result ≡ tagged_field }
-{
-    Detail {
-        rep: Rep::Tagged,
-        constness: Constness::Mutable,
-        class: Class::Any,
-    }
 }
 
 // Has an object with n properties get one more: it comes to the child of its map. The answer is whether there was
@@ -99,7 +89,8 @@ pub(crate) fn grow_object<P: Pace>(h: &mut Heap<P>, object: u32, map: u32, n: u3
         kind: held.kind(),
         attrs: p.attrs,
     };
-    let Ok(child) = child_or_make(h, map, key, tagged_detail()) else {
+    let detail = detail_for_held(h, held, Constness::Const);
+    let Ok(child) = child_or_make(h, map, key, detail) else {
         return false;
     };
     move_to_child(h, object, map, child, n, p);

@@ -10,10 +10,10 @@ ghost use Rattle.hc_objects.specs.Meaning.{kept_of};
 ghost use Rattle.hc_objects.specs.Needs.{IsFew};
 ghost use Rattle.hc_objects.specs.Modes.{both, link_need};
 
-use crate::dictionary::Dictionary;
-use crate::fast::map_of;
 use crate::objects::Objects;
+use hc_dict::{Change, Dictionary};
 use hc_heap::{Pace, details_rise, gates_are_open, unused_says_nothing};
+use hc_slots::fast::map_of;
 use hc_tree::{
     NONE, Need, has_space, known_root, maps_are_kept, mark_unstable, of_copy, of_retarget, plus,
     trees_stay,
@@ -152,6 +152,7 @@ impl<P: Pace> Objects<P> {
         ensures named { IsNamedNow P.went self.old proto self.new }
         ensures moves { AreMoves P.went self.old (moves_to_link self.old o proto) self.new }
     {
+        unused_says_nothing();
         if self.names_slow(proto) {
             self.mark_map(o);
             self.settle_named(proto, spare);
@@ -192,7 +193,7 @@ impl<P: Pace> Objects<P> {
     {
         if let Some(slow) = spare {
             self.leave_with(o, slow);
-            self.link_slow(o, proto);
+            self.change_slow(o, Change::Link(proto));
             return;
         }
         self.link_fast(o, proto);
@@ -207,11 +208,12 @@ impl<P: Pace> Objects<P> {
         ensures did { OnOk result (Came P.went self.old (Linked o proto) self.new) }
         ensures moved { OnErr result (Moves P.went self.old self.new) }
     {
+        unused_says_nothing();
         self.stands();
         let spare = self.spare_of(proto)?;
         self.settle_named(proto, spare);
         self.stands();
-        self.link_slow(o, proto);
+        self.change_slow(o, Change::Link(proto));
         Ok(())
     }
 

@@ -5,10 +5,14 @@ ghost use Rattle.hc_heap.specs.Kept.{GoesOn};
 ghost use Rattle.hc_heap.specs.States.{View, IsHeap, IsDesk, Goes};
 ghost use Rattle.hc_table.specs.Changes.{Did};
 ghost use Rattle.hc_objects.specs.Came.{Came};
+ghost use Rattle.hc_objects.specs.Rest.{AreCalm};
 ghost use Rattle.hc_objects.specs.Spent.{IsSpent};
 ghost use Rattle.hc_objects.specs.State.{ObjectsState, IsObjects};
 
-use hc_heap::{Pace, gates_are_open, positions_are_stores, positions_go_on, stores_are_writes};
+use hc_heap::{
+    Pace, gates_are_open, positions_are_stores, positions_go_on, stores_are_writes,
+    unused_says_nothing,
+};
 
 /// Where the board's stores go on, so do the writes that are read from them, and each of these is lawful.
 pub fn writes_go_on()
@@ -28,4 +32,12 @@ pub fn operations_spend_little<P: Pace>()
     ensures onward { (m n : ℕ) (a b c : ObjectsState P) → IsSpent m a b → IsSpent n b c → IsSpent (m + n) a c }
 {
     gates_are_open();
+}
+
+/// Where no map was unstable that a prototype had, none is after an operation, nor after the moves that want of memory leaves.
+pub fn prototypes_stay_calm<P: Pace>()
+    ensures law { (a b : ObjectsState P) (did : Did) → IsObjects a.heap.view a.kept a.of_null → IsObjects b.heap.view b.kept b.of_null → Came P.went a did b
+        → AreCalm a.heap.view.trail → AreCalm b.heap.view.trail }
+{
+    unused_says_nothing();
 }

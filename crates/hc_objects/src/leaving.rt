@@ -1,82 +1,41 @@
 //! An object that leaves its map for a dictionary.
-ghost use Rattle.std.specs.Prelude.{ℕ, ◌≡◌, ◌≢◌, ◌<◌, ◌≤◌, None, Some, IfOk, OnOk, OnErr, length};
-ghost use Rattle.std.specs.List.{AllByRecursion};
-ghost use Rattle.hc_descs.specs.Entries.{count_of};
+ghost use Rattle.std.specs.Prelude.{ℕ, ◌≡◌, ◌≢◌, ◌<◌, ◌∷◌, None, Some, IfOk, OnOk, OnErr, length};
 ghost use Rattle.hc_heap.specs.Readings.{map_in, root_in};
-ghost use Rattle.hc_table.specs.Attributes.{IsProper};
+ghost use Rattle.hc_heap.specs.States.{IsHeap, Goes};
+ghost use Rattle.hc_heap.specs.Writes.{ObjectMap};
+ghost use Rattle.hc_slots.specs.Meaning.{dictionary_object};
 ghost use Rattle.hc_table.specs.Changes.{Moved};
-ghost use Rattle.hc_table.specs.World.{HaveDistinctNames, object};
-ghost use Rattle.hc_tree.specs.Growth.{IsUnmoved};
+ghost use Rattle.hc_table.specs.World.{object};
+ghost use Rattle.hc_tree.specs.Growth.{marked};
+ghost use Rattle.hc_tree.specs.Tree.{IsTree};
 ghost use Rattle.hc_objects.specs.Rest.{Marks};
 ghost use Rattle.hc_objects.specs.Changes.{KeptBut};
-ghost use Rattle.hc_objects.specs.Meaning.{cause_in, dictionary_object, fast_props, kept_of, object_shown};
-ghost use Rattle.hc_objects.specs.State.{HasMap};
+ghost use Rattle.hc_objects.specs.Meaning.{cause_in, kept_of};
 ghost use Rattle.hc_objects.specs.Came.{Steps, IsStill, world_of};
 
-use crate::dictionary::Dictionary;
-use crate::entries::prop_of_entry;
-use crate::fast;
 use crate::objects::Objects;
-use crate::slots::leave_map;
-use hc_dict::Dict;
+use hc_dict::Dictionary;
 use hc_heap::{Heap, Pace, details_rise, unused_says_nothing};
-use hc_tree::{maps_are_kept, trees_stay};
+use hc_slots::dictionary_of;
+use hc_slots::fast::map_of;
+use hc_tree::{maps_are_kept, mark_unstable, trees_stay};
 use hc_value::{Cause, Memory};
-use std::alloc::Global;
 
-// The n properties of a fast object, in a table of their own.
-fn table_of<P: Pace>(
-    h: &mut Heap<P>,
-    alloc: Global,
-    object: u32,
-    map: u32,
-    n: u32,
-) -> Result<Dict, Memory>
-    requires fast { HasMap h.old.view.trail object }
+// Has an object leave its map.
+fn leave_map<P: Pace>(h: &mut Heap<P>, object: u32, map: u32)
+    requires tree { IsTree h.old.view.trail }
+    requires handed { object < h.old.view.used.objects }
+    requires there { map < h.old.view.used.maps }
     requires has { map_in h.old.view.trail object ≡ Some map }
-    requires count { n ≡ count_of h.old.view.trail map }
-    requires distinct { HaveDistinctNames (fast_props h.old.view.trail object map) }
-    requires proper { AllByRecursion IsProper (fast_props h.old.view.trail object map) }
-    ensures props { IfOk result (λ d. d ≡ fast_props h.old.view.trail object map) }
-    ensures still { IsUnmoved h.old h.new }
-    ensures loads { h.old.desk.loads ≤ h.new.desk.loads }
+    ensures view { h.new.view ≡ record h.old.view { trail = ObjectMap object None ∷ marked h.old.view.trail map } }
+    ensures marked_tree { IsTree (marked h.old.view.trail map) }
+    ensures marked_heap { IsHeap (record h.old.view { trail = marked h.old.view.trail map }) }
+    ensures heap { IsHeap h.new.view }
+    ensures goes { Goes h.old.desk h.new.desk }
+    ensures went { P.went h.old.pace h.old.desk.trail h.new.desk.trail h.new.pace }
 {
-    let mut props = Dict::new(alloc);
-    for k in 0..n {
-        let prop = prop_of_entry(h, object, map, k);
-        let Ok(()) = props.insert(prop) else {
-            return Err(Memory);
-        };
-    }
-    Ok(props)
-}
-
-// A fast object, as a dictionary.
-fn dictionary_of<P: Pace>(
-    h: &mut Heap<P>,
-    alloc: Global,
-    object: u32,
-    cause: Cause,
-) -> Result<Dictionary, Memory>
-    requires fast { HasMap h.old.view.trail object }
-    requires distinct { HaveDistinctNames (object_shown h.old.view.trail object None (map_in h.old.view.trail object)).props }
-    requires proper { AllByRecursion IsProper (object_shown h.old.view.trail object None (map_in h.old.view.trail object)).props }
-    ensures value { IfOk result (λ d. dictionary_object d ≡ object_shown h.old.view.trail object None (map_in h.old.view.trail object)) }
-    ensures cause { IfOk result (λ d. d.cause ≡ cause) }
-    ensures still { IsUnmoved h.old h.new }
-    ensures loads { h.old.desk.loads ≤ h.new.desk.loads }
-{
-    let map = fast::map_of(h, object);
-    let proto = fast::proto(h, object);
-    let extensible = fast::extensible(h, object);
-    let n = fast::len(h, object);
-    let props = table_of(h, alloc, object, map, n)?;
-    Ok(Dictionary {
-        cause,
-        proto,
-        extensible,
-        props,
-    })
+    mark_unstable(h, map);
+    h.set_object_map(object, None);
 }
 
 impl<P: Pace> Objects<P> {
@@ -110,7 +69,7 @@ impl<P: Pace> Objects<P> {
         details_rise();
         trees_stay();
         unused_says_nothing();
-        let map = fast::map_of(&mut self.heap, o);
+        let map = map_of(&mut self.heap, o);
         leave_map(&mut self.heap, o, map);
         self.kept[o as usize] = Some(slow);
     }

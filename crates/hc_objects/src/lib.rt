@@ -1,14 +1,11 @@
 //! Fast and slow objects over the tree of maps.
 #![tactic(auto)]
 
+mod admitting;
 mod becoming;
 mod changing;
 mod creates;
-mod dictionary;
-mod entries;
-mod fast;
 mod growing;
-mod held;
 mod inheriting;
 mod laws;
 mod leaving;
@@ -19,12 +16,9 @@ mod reads;
 mod relinks;
 mod removing;
 mod shapes;
-mod slots;
 mod slow;
-mod stores;
 mod tables;
 mod writes;
 
-pub use dictionary::Dictionary;
-pub use laws::{operations_spend_little, writes_go_on};
+pub use laws::{operations_spend_little, prototypes_stay_calm, writes_go_on};
 pub use objects::Objects;

@@ -8,7 +8,7 @@ ghost use Rattle.hc_objects.specs.Meaning.{kept_of};
 ghost use Rattle.hc_objects.specs.State.{IsObjects};
 ghost use Rattle.hc_objects.specs.Came.{IsStill, world_of};
 
-use crate::dictionary::Dictionary;
+use hc_dict::Dictionary;
 use hc_heap::{Heap, Pace};
 use hc_layout::{Region, Shape};
 use hc_value::Memory;

@@ -2,7 +2,10 @@
 ghost use Rattle.std.specs.Prelude.{◌≡◌, ◌+◌, ◌<◌, ◌≤◌, ◌↔◌, ℕ, true, false, IsTrue, None, Some, IfSome, length};
 ghost use Rattle.hc_layout.specs.declared.capacity.TheConstants.{MAX_FAST};
 ghost use Rattle.hc_value.specs.declared.key.Key.{Key as KeyOfProperty};
-ghost use Rattle.hc_heap.specs.Lawful.{HoldsEntries, IsKey};
+ghost use Rattle.hc_value.specs.Field.{IsClassInRange};
+ghost use Rattle.hc_value.specs.declared.field.Constness.TheVariants.{Const};
+ghost use Rattle.hc_value.specs.declared.prop.Kind.TheVariants.{AccessorProp};
+ghost use Rattle.hc_heap.specs.Lawful.{HoldsEntries, IsClassThere, IsKey};
 ghost use Rattle.hc_heap.specs.Readings.{gate_in, map_in, root_in, store_in};
 ghost use Rattle.hc_heap.specs.States.{Goes};
 ghost use Rattle.hc_descs.specs.Entries.{IsOpenMap, LacksName, count_of};
@@ -12,29 +15,29 @@ ghost use Rattle.hc_table.specs.World.{object, place_of, props_at};
 ghost use Rattle.hc_tree.specs.Copying.{MayBeLast, copied_count, copy_need};
 ghost use Rattle.hc_tree.specs.Growth.{IsUnmoved, MayBePrototype};
 ghost use Rattle.hc_tree.specs.Needs.{HasSpace};
-ghost use Rattle.hc_tree.specs.Tree.{IsProperKey, IsTree, gate_with, tagged_field};
-ghost use Rattle.hc_objects.specs.Rest.{Marks, StartsByMark};
+ghost use Rattle.hc_tree.specs.Tree.{IsNarrow, IsProperKey, IsTree, gate_with, tagged_field};
+ghost use Rattle.hc_objects.specs.Rest.{Marks, Relinks};
 ghost use Rattle.hc_objects.specs.Needs.{IsFew};
 ghost use Rattle.hc_objects.specs.Came.{Steps, IsStill, world_of};
+ghost use Rattle.hc_objects.specs.Admitting.{held_detail};
 ghost use Rattle.hc_objects.specs.Changes.{key_of};
 ghost use Rattle.hc_objects.specs.Meaning.{kept_of};
 ghost use Rattle.hc_objects.specs.Modes.{IsWithin, add_need, link_need};
 ghost use Rattle.hc_objects.specs.Privates.{IsCopied, IsGrownAlone, IsMovedToCopy, private_need};
-ghost use Rattle.hc_objects.specs.State.{AreHandedOut};
+ghost use Rattle.hc_slots.specs.Slots.{AreHandedOut};
 ghost use Rattle.hc_table.specs.Ranges.{IsHeldInRange};
 
-use crate::fast::map_of;
-use crate::growing::tagged_detail;
-use crate::held::held_word;
+use crate::admitting::detail_for_held;
 use crate::objects::Objects;
-use crate::stores::{fill_next, slots_needed};
 use hc_heap::{Heap, Pace, details_rise, forms_are_kept, gates_are_open, unused_says_nothing};
+use hc_slots::fast::map_of;
+use hc_slots::{fill_next, held_word, slots_needed};
 use hc_table::changes_keep;
 use hc_tree::{
     Need, has_space, maps_are_kept, mark_unstable, of_copy, of_longer_copy, private_copy,
     trees_stay, with_slots,
 };
-use hc_value::{Detail, Key, Prop};
+use hc_value::{Constness, Detail, Key, Prop};
 
 // What one property more needs, of an object with n properties and a private map.
 fn need_of_growth(n: u32, capacity: u32) -> Need
@@ -44,9 +47,17 @@ fn need_of_growth(n: u32, capacity: u32) -> Need
     with_slots(of_longer_copy(n), slots_needed(n, capacity))
 }
 
-// The entry for a property, whose field admits everything.
-fn entry_for(p: Prop) -> (Key, Detail)
-    ensures { result ≡ (key_of p, tagged_field) }
+// The entry for a property, whose field admits what the property holds.
+fn entry_for<P: Pace>(h: &mut Heap<P>, p: Prop) -> (Key, Detail)
+    ensures key { result.0 ≡ key_of p }
+    ensures detail { result.1 ≡ held_detail h.old.view.trail p.held Const }
+    ensures accessor { result.0.kind ≡ AccessorProp → result.1 ≡ tagged_field }
+    ensures narrow { IsNarrow result.1 }
+    ensures form { IsClassInRange result.1.class }
+    ensures there { IsClassThere h.old.view.shape h.old.view.trail result.1.class }
+    ensures same { h.new ≡ record h.old { desk = h.new.desk } }
+    ensures goes { Goes h.old.desk h.new.desk }
+    ensures went { P.went h.old.pace h.old.desk.trail h.new.desk.trail h.new.pace }
 {
     let held = p.held;
     let key = Key {
@@ -54,7 +65,8 @@ fn entry_for(p: Prop) -> (Key, Detail)
         kind: held.kind(),
         attrs: p.attrs,
     };
-    (key, tagged_detail())
+    let detail = detail_for_held(h, held, Constness::Const);
+    (key, detail)
 }
 
 // Makes a map unstable, and then a private copy of it.
@@ -113,7 +125,7 @@ fn grow_to_copy<P: Pace>(h: &mut Heap<P>, object: u32, map: u32, n: u32, p: Prop
     gates_are_open();
     h.stands();
     let word = held_word(p.held);
-    let entry = entry_for(p);
+    let entry = entry_for(h, p);
     let proto = h.proto(map).unwrap();
     let copy = copy_map(h, map, false, proto, Some(entry));
     fill_next(h, object, n, word);
@@ -225,7 +237,7 @@ impl<P: Pace> Objects<P> {
         ensures still { result ≡ false → IsStill self.old self.new }
         ensures kept { self.new.kept ≡ self.old.kept }
         ensures null { self.new.of_null ≡ self.old.of_null }
-        ensures starts { IsTrue result → StartsByMark self.old.heap.view.trail self.new.heap.view.trail o }
+        ensures relinks { IsTrue result → Relinks self.old.heap.view.trail self.new.heap.view.trail o proto }
     {
         maps_are_kept();
         details_rise();

@@ -15,6 +15,7 @@ ghost use Rattle.hc_objects.specs.Modes.{add_need};
 ghost use Rattle.hc_objects.specs.Came.{IsStill, Made, MayLeave, Moves, Steps, world_of};
 
 use crate::objects::Objects;
+use hc_dict::Change;
 use hc_heap::Pace;
 use hc_layout::MAX_FAST;
 use hc_value::{Cause, Held, Memory, Prop};
@@ -109,7 +110,7 @@ impl<P: Pace> Objects<P> {
         ensures did { Made P.went self.old (Wrote o i held) self.new }
     {
         if self.is_slow(o) {
-            self.write_slow(o, i, held);
+            self.change_slow(o, Change::Write(i, held));
             return;
         }
         self.write_fast(o, i, held);

@@ -7,10 +7,10 @@ ghost use Rattle.hc_table.specs.World.{IsWorld, object, props_at, place_of};
 ghost use Rattle.hc_objects.specs.Meaning.{kept_of};
 ghost use Rattle.hc_objects.specs.Came.{IsStill, world_of};
 
-use crate::dictionary::Dictionary;
-use crate::fast;
 use crate::objects::Objects;
+use hc_dict::Dictionary;
 use hc_heap::Pace;
+use hc_slots::fast;
 use hc_value::Prop;
 
 impl<P: Pace> Objects<P> {
@@ -59,7 +59,7 @@ impl<P: Pace> Objects<P> {
         fast::extensible(&mut self.heap, o)
     }
 
-    /// How many properties an object has of its own.
+    /// How many properties an object has of its own. The gaps of a slow one are closed, for a walk over all places.
     pub fn len(&mut self, o: u32) -> u32
         requires { o < length (world_of self.old) }
         ensures len { result ≡ length (props_at (world_of self.old) o) }
@@ -67,8 +67,9 @@ impl<P: Pace> Objects<P> {
         ensures loads { OnlyLoads 2 self.old.heap.desk self.new.heap.desk }
         ensures sound { IsWorld (world_of self.old) }
     {
-        if let Some(slow) = self.slow(o) {
-            return slow.props.len();
+        if self.is_slow(o) {
+            self.close_slow(o);
+            return self.slow(o).unwrap().props.len();
         }
         fast::len(&mut self.heap, o)
     }

@@ -12,13 +12,13 @@ ghost use Rattle.hc_table.specs.World.{object};
 ghost use Rattle.hc_objects.specs.Came.{Steps, IsStill, world_of};
 ghost use Rattle.hc_objects.specs.Linking.{HasMapFor, IsRelinked, shared_need};
 ghost use Rattle.hc_objects.specs.Meaning.{kept_of};
-ghost use Rattle.hc_objects.specs.Rest.{StartsByMark};
+ghost use Rattle.hc_objects.specs.Rest.{Relinks};
 ghost use Rattle.hc_objects.specs.Modes.{IsWithin, arrays_upto, both, link_need, walk_need};
 ghost use Rattle.hc_objects.specs.State.{AreRoots};
 
-use crate::fast::map_of;
 use crate::objects::Objects;
 use hc_heap::{Heap, Pace, details_rise, gates_are_open, set_is_kept, unused_says_nothing};
+use hc_slots::fast::map_of;
 use hc_table::changes_keep;
 use hc_tree::{
     has_space, known_root, map_for, maps_are_kept, mark_unstable, of_retarget, trees_stay,
@@ -112,7 +112,7 @@ impl<P: Pace> Objects<P> {
         ensures protos { (q : ℕ) → (root_in self.new.heap.view.trail q).is_proto ≡ (root_in self.old.heap.view.trail q).is_proto }
         ensures still { result ≡ false → IsStill self.old self.new }
         ensures kept { self.new.kept ≡ self.old.kept }
-        ensures starts { IsTrue result → StartsByMark self.old.heap.view.trail self.new.heap.view.trail o }
+        ensures relinks { IsTrue result → Relinks self.old.heap.view.trail self.new.heap.view.trail o proto }
     {
         maps_are_kept();
         details_rise();

@@ -14,9 +14,10 @@ ghost use Rattle.hc_objects.specs.Meaning.{kept_of};
 ghost use Rattle.hc_objects.specs.Modes.{if_deleted};
 ghost use Rattle.hc_objects.specs.Came.{IsStill, Made, Moves, Steps, world_of};
 
-use crate::fast::map_of;
 use crate::objects::Objects;
+use hc_dict::Change;
 use hc_heap::{Heap, Pace, details_rise, gates_are_open, unused_says_nothing};
+use hc_slots::fast::map_of;
 use hc_table::changes_keep;
 use hc_tree::{maps_are_kept, mark_unstable, trees_stay};
 use hc_value::{Cause, Memory};
@@ -90,7 +91,7 @@ impl<P: Pace> Objects<P> {
         ensures moved { OnErr result (Moves P.went self.old self.new) }
     {
         if self.is_slow(o) {
-            self.remove_slow(o, i);
+            self.change_slow(o, Change::Remove(i));
             return Ok(());
         }
         if self.is_last(o, i) {
@@ -98,7 +99,7 @@ impl<P: Pace> Objects<P> {
             return Ok(());
         }
         self.leave(o, Cause::Deleted)?;
-        self.remove_slow(o, i);
+        self.change_slow(o, Change::Remove(i));
         Ok(())
     }
 }

@@ -27,7 +27,7 @@ use mathlib.Core.Logic.{inl, inr}
 
 -- a command that lacks memory only reads, or moves
 still_moves : {P : Type 0} (went : P → List Access → List Access → P → Type 0) (old new : ObjectsState P) → IsStill old new → Moves went old new
-still_moves {P} went old new still = record { moves = []; few = omega arith; are = still }
+still_moves {P} went old new still = record { moves = []; few = omega arith; ends = tt; are = still }
 
 pub want_moves : {P : Type 0} (went : P → List Access → List Access → P → Type 0) (old new : ObjectsState P) (command : Command) → Came went old (did_in_want command) new → Moves went old new
 want_moves {P} went old new (Keys o) came = still_moves went old new came

@@ -9,6 +9,7 @@ use Rattle.hc_heap.specs.States.{IsDesk}
 use Rattle.hc_objects.specs.Came.{Came, world_of}
 use Rattle.hc_objects.specs.Meaning.{cause_in}
 use Rattle.hc_objects.specs.Modes.{AreAlike, HaveOneWord, mode_of}
+use Rattle.hc_objects.specs.Rest.{AreCalm}
 use Rattle.hc_objects.specs.State.{ObjectsState, IsObjects}
 use Rattle.hc_commands.specs.Verbs.{IsBuilt}
 use Rattle.hc_commands.specs.declared.command.Command.{Command}
@@ -24,10 +25,12 @@ pub record Standing (P : Type 0) : Type 0 where
 abbrev pub tables_of : {P : Type 0} → ObjectsState P → Tables
 tables_of objects = record { world = world_of objects; limit = objects.heap.view.shape.objects }
 
--- words and dictionaries are sound, and stand for the property tables; the words are those that the board's stores say
+-- words and dictionaries are sound, and stand for the property tables; the words are those that the board's stores say; and no
+-- map is unstable that a prototype has
 pub record Stands {P : Type 0} (objects : ObjectsState P) : Type 0 where
   pub sound : IsObjects objects.heap.view objects.kept objects.of_null
   pub desk : IsDesk objects.heap.view objects.heap.desk
+  pub calm : AreCalm objects.heap.view.trail
 
 -- two objects are fast and have one map: they are one, or are alike; so their map words say
 pub record HaveOneMap {P : Type 0} (objects : ObjectsState P) (a b : ℕ) (same : Bool) : Type 0 where

@@ -10,7 +10,7 @@ use crate::Scripted;
 use crate::perform::perform;
 use hc_heap::Pace;
 use hc_layout::Shape;
-use hc_objects::Objects;
+use hc_objects::{Objects, prototypes_stay_calm};
 use hc_script::Command;
 use hc_value::{Memory, Reply};
 use std::alloc::Global;
@@ -72,6 +72,8 @@ impl<P: Pace> Session<P> {
         ensures stands { Stands self.new.objects }
         ensures fresh { self.new.fresh ≡ false }
     {
+        prototypes_stay_calm::<P>();
+        self.objects.stands();
         self.begun = true;
         let reply = perform(&mut self.objects, command, self.alloc);
         self.objects.stands();

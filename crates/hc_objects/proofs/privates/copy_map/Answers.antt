@@ -3,7 +3,7 @@ use Rattle.hc_heap.specs.States.{View}
 use Rattle.hc_tree.specs.Copying.{MayBeLast}
 use Rattle.hc_objects.proofs.Copied.{IsMade, copied-from, marked-last}
 use Rattle.hc_objects.proofs.Owning.{open-used}
-use Rattle.hc_objects.proofs.Rising.{some-of}
+use Rattle.hc_slots.specs.Cases.{some-of}
 use Rattle.hc_objects.proofs.privates.copy_map.Goals as goal
 use Rattle.hc_heap.specs.Readings.{gate_in}
 

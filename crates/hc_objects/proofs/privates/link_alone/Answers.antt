@@ -5,7 +5,7 @@ use Rattle.hc_heap.specs.Lawful.{LawfulObjectMap}
 use Rattle.hc_heap.specs.States.{View, IsHeap, with_write}
 use Rattle.hc_descs.specs.Entries.{entries_in}
 use Rattle.hc_tree.specs.Tree.{gate_with}
-use Rattle.hc_objects.specs.State.{IsFast}
+use Rattle.hc_slots.specs.Fast.{IsFast}
 use Rattle.hc_objects.specs.Privates.{IsMovedToCopy}
 use Rattle.hc_objects.proofs.Relinking.{copy-lawful, moved-to-copy}
 use Rattle.hc_objects.proofs.privates.link_alone.Goals as goal

@@ -1,4 +1,4 @@
-use Rattle.std.proofs.Common.{◌≡◌, ◌∙◌, ℕ, false, Some, ap}
+use Rattle.std.proofs.Common.{◌∙◌, ℕ, false, Some, ap}
 use Rattle.hc_tree.specs.declared.need.Need.{Need}
 use Rattle.hc_tree.specs.Copying.{copy_need}
 use Rattle.hc_tree.specs.Needs.{both, slots_alone}

@@ -2,7 +2,8 @@ use Rattle.std.proofs.Common.{◌≡◌, ◌∙◌, ◌<◌, List, [], ◌∷◌
 use Rattle.hc_table.specs.Changes.{Added}
 use Rattle.hc_table.specs.World.{Object, object, props_at, place_of, with_list}
 use Rattle.hc_objects.specs.Came.{Steps, world_of}
-use Rattle.hc_objects.specs.Meaning.{Dictionary, dictionary_object, kept_of, world}
+use Rattle.hc_slots.specs.Meaning.{Dictionary, dictionary_object}
+use Rattle.hc_objects.specs.Meaning.{kept_of, world}
 use Rattle.hc_objects.specs.State.{ObjectsState, IsObjects}
 use Rattle.hc_objects.proofs.Shown.{within}
 use Rattle.hc_objects.proofs.Slowed.{is-slow, item-is, slow-change, slow-world, slow-sound, slow-steps, on-ok, either}

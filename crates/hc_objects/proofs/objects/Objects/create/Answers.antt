@@ -1,6 +1,7 @@
 use Rattle.std.proofs.Common.{◌≡◌, ◌≤◌, false, true≢false, length, refl, sym, ap, ◌∙◌, subst, arith}
 use Rattle.hc_heap.specs.Readings.{root_in}
 use Rattle.hc_objects.specs.State.{ObjectsState}
+use Rattle.hc_objects.proofs.Calm.{lone}
 use Rattle.hc_objects.proofs.Created.{IsReady, begun-number, created, ready, ready-proto, ready-shared, ready-there, spare-on}
 use Rattle.hc_objects.proofs.Creating.{is-full, not-full, ok-not-full, proto-none}
 use Rattle.hc_objects.proofs.Worlds.{length-world}
@@ -74,4 +75,5 @@ returns-clause-number g c =
 pub returns-clause-did : goal.returns-clause-did
 returns-clause-did g c =
     created g.P.Pace.went g.met.P.Pace.goes_on g.met.P.Pace.stays c.args.self.now c.create_slow.new.self c.settle_named.new.self c.enter_root.new.self c.in-Ok-create_slow.object c.spare_of.new.self c.in-Ok.ensures.still
-    c.args.proto c.requires c.in-Ok-create_slow.ensures.begun c.settle_named.ensures.named c.settle_named.ensures.none c.settle_named.ensures.how c.stands.ensures.sound.heap.lawful c.enter_root.ensures.entered
+    c.args.proto c.requires c.in-Ok-create_slow.ensures.begun c.settle_named.ensures.named c.settle_named.ensures.none c.settle_named.ensures.how c.stands.ensures.sound.heap.lawful
+    (lone c.unused_says_nothing.ensures.law c.settle_named.new.self.heap.view c.settle_named.new.self.kept c.settle_named.new.self.of_null c.stands.ensures.sound) c.enter_root.ensures.entered

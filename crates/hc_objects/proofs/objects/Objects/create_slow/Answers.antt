@@ -9,7 +9,8 @@ use Rattle.hc_table.specs.Changes.{IsThere}
 use Rattle.hc_table.specs.World.{Object, new_object, object}
 use Rattle.hc_objects.specs.Changes.{KeptBut}
 use Rattle.hc_objects.specs.Creating.{IsBegun}
-use Rattle.hc_objects.specs.Meaning.{Dictionary, cause_in, dictionary_object, world}
+use Rattle.hc_slots.specs.Meaning.{Dictionary, dictionary_object}
+use Rattle.hc_objects.specs.Meaning.{cause_in, world}
 use Rattle.hc_objects.specs.State.{ObjectsState, IsObjects}
 use Rattle.hc_objects.proofs.Creating.{slow-world, slow-sound, slow-value}
 use Rattle.hc_objects.proofs.Items.{kept-push, kept-push_here}

@@ -5,7 +5,8 @@ use Rattle.hc_heap.specs.Readings.{map_in}
 use Rattle.hc_table.specs.Attributes.{IsProper}
 use Rattle.hc_table.specs.World.{Object, object, HaveDistinctNames}
 use Rattle.hc_objects.specs.Came.{IsStill, world_of}
-use Rattle.hc_objects.specs.Meaning.{dictionary_object, kept_of, object_shown, world}
+use Rattle.hc_slots.specs.Meaning.{dictionary_object, object_shown}
+use Rattle.hc_objects.specs.Meaning.{kept_of, world}
 use Rattle.hc_objects.specs.State.{ObjectsState}
 use Rattle.hc_objects.proofs.Become.{still-heap}
 use Rattle.hc_objects.proofs.Left.{fast-is}

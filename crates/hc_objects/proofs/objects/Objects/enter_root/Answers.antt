@@ -11,14 +11,16 @@ use Rattle.hc_tree.specs.Needs.{HasSpace, with_need}
 use Rattle.hc_table.specs.World.{new_object, object}
 use Rattle.hc_objects.specs.Came.{world_of}
 use Rattle.hc_objects.specs.Creating.{IsEntered}
-use Rattle.hc_objects.specs.Meaning.{Dictionary, cause_in, kept_of, world}
+use Rattle.hc_slots.specs.Meaning.{Dictionary}
+use Rattle.hc_objects.specs.Meaning.{cause_in, kept_of, world}
 use Rattle.hc_objects.specs.Modes.{StaysFast, if_fast}
+use Rattle.hc_objects.specs.Rest.{Marks}
 use Rattle.hc_objects.specs.State.{ObjectsState, IsObjects}
 use Rattle.hc_objects.proofs.Become.{cause-some}
-use Rattle.hc_objects.proofs.Entering.{enter-lawful, enter-proto, enter-sound, enter-world}
+use Rattle.hc_objects.proofs.Entering.{enter-lawful, enter-marks, enter-proto, enter-sound, enter-world}
 use Rattle.hc_objects.proofs.Items.{kept-set, kept-set_here}
 use Rattle.hc_objects.proofs.Prototypes.{slow-none}
-use Rattle.hc_objects.proofs.Rising.{some-of}
+use Rattle.hc_slots.specs.Cases.{some-of}
 use Rattle.hc_objects.proofs.Rooted.{IsRooted, is-rooted}
 use Rattle.hc_objects.proofs.Shown.{within}
 use Rattle.hc_objects.proofs.objects.Objects.enter_root.Goals as goal
@@ -99,5 +101,7 @@ returns g c =
         used = ap (λ (x : View). x.used) moved ∙ it.used ∙ ap (λ (x : Option Cause). with_need (if_fast x (root_need (root_of v.trail proto null))) v.used) (sym fast);
         protos = λ q. subst (λ (x : View). (root_in x.trail q).is_proto ≡ (root_in v.trail q).is_proto) (sym moved) (enter-proto c.maps_are_kept.ensures.law c.details_rise.ensures.law c.trees_stay.ensures.law c.unused_says_nothing.ensures.law v w kept null then proto o r c.self.invariant it none shared heap q);
         others = kept-set kept o None;
+        none = none;
+        marks = subst (λ (x : View). Marks v.trail x.trail o) (sym moved) (enter-marks c.maps_are_kept.ensures.law c.details_rise.ensures.law c.trees_stay.ensures.law c.unused_says_nothing.ensures.law v w kept null then proto o r c.self.invariant it none shared heap);
       });
     }

@@ -1,5 +1,6 @@
 use Rattle.std.proofs.Common.{◌≡◌, ◌<◌, length, ap, sym, ◌∙◌, subst, arith, Option, IsSome}
-use Rattle.hc_objects.specs.Meaning.{Dictionary, kept_of}
+use Rattle.hc_slots.specs.Meaning.{Dictionary}
+use Rattle.hc_objects.specs.Meaning.{kept_of}
 use Rattle.hc_objects.specs.State.{ObjectsState}
 use Rattle.hc_objects.proofs.Altering.{slow-of, fast-of}
 use Rattle.hc_objects.proofs.Shown.{kept-item, within}

@@ -9,7 +9,8 @@ use Rattle.hc_tree.specs.Tree.{IsTree}
 use Rattle.hc_table.specs.Changes.{Moved}
 use Rattle.hc_table.specs.World.{object}
 use Rattle.hc_objects.specs.Came.{Steps, world_of}
-use Rattle.hc_objects.specs.Meaning.{Dictionary, dictionary_object, kept_of, object_shown}
+use Rattle.hc_slots.specs.Meaning.{Dictionary, dictionary_object, object_shown}
+use Rattle.hc_objects.specs.Meaning.{kept_of}
 use Rattle.hc_objects.specs.State.{ObjectsState}
 use Rattle.hc_objects.proofs.Items.{kept-set_here}
 use Rattle.hc_objects.proofs.Left.{unmoved-one, unmoved-goes, unmoved-went, fast-is, map-used, left-world, left-sound}

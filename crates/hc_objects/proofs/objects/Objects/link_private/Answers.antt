@@ -7,9 +7,9 @@ use Rattle.hc_objects.specs.Came.{Steps}
 use Rattle.hc_objects.specs.State.{ObjectsState}
 use Rattle.hc_objects.proofs.Linking.{call-link-sound, call-link-world, call-may-be, call-owner}
 use Rattle.hc_objects.proofs.Shown.{fast-has}
-use Rattle.hc_objects.specs.Rest.{StartsByMark}
+use Rattle.hc_objects.specs.Rest.{Relinks}
 use Rattle.hc_objects.specs.Privates.{IsMovedToCopy}
-use Rattle.hc_objects.proofs.Marking.{maps-kept, starts-by}
+use Rattle.hc_objects.proofs.Marking.{copied-relink}
 use Rattle.hc_objects.proofs.objects.Objects.link_private.Goals as goal
 
 pub map_of-map-requires : goal.map_of-map-requires
@@ -67,13 +67,13 @@ returns-clause-linked g c = λ yes.
       went = on _ _ _ _ _ _ c.map_of-map.ensures.went (on _ _ _ _ _ _ c.gate.ensures.went c.link_alone.ensures.went);
     })
 
-pub returns-clause-starts : goal.returns-clause-starts
-returns-clause-starts g c = λ yes.
+pub returns-clause-relinks : goal.returns-clause-relinks
+returns-clause-relinks g c = λ yes.
     let v = c.self.inside.heap.view in
     let w = c.link_alone.new.h.view in
     let m = c.map_of-map.result in
     let n = c.unwrap-gate.result.entries in
     let same : c.gate.new.self.view ≡ v = ap (λ (s : HeapState g.row.P.Denot). s.view) c.gate.ensures.new ∙ ap (λ (s : HeapState g.row.P.Denot). s.view) c.map_of-map.ensures.new in
     let it : IsMovedToCopy false v w c.args.o m n c.args.proto = subst (λ (x : View). IsMovedToCopy false x w c.args.o m n c.args.proto) same (c.link_alone.ensures.linked yes) in
-    subst (λ (s : ObjectsState g.row.P.Denot). StartsByMark s.heap.view.trail w.trail c.args.o) c.self.view_is
-    (starts-by v.trail w.trail c.args.o m it.after.more c.map_of-map.ensures.map it.after.is (maps-kept v w c.args.o it.changed))
+    subst (λ (s : ObjectsState g.row.P.Denot). Relinks s.heap.view.trail w.trail c.args.o c.args.proto) c.self.view_is
+    (copied-relink v w c.args.o m n c.args.proto c.map_of-map.ensures.map it)

@@ -1,5 +1,5 @@
-use Rattle.std.proofs.Common.{◌≡◌, ◌∙◌, Some, ap, sym, subst}
-use Rattle.hc_heap.specs.Readings.{gate_in}
+use Rattle.std.proofs.Common.{◌≡◌, ◌∙◌, false, Some, ap, sym, subst}
+use Rattle.hc_heap.specs.Readings.{gate_in, root_in}
 use Rattle.hc_heap.specs.Frames.{goes-on}
 use Rattle.hc_heap.specs.States.{View, HeapState}
 use Rattle.hc_table.specs.Changes.{Linked}
@@ -7,9 +7,10 @@ use Rattle.hc_objects.specs.Came.{Steps}
 use Rattle.hc_objects.specs.State.{ObjectsState}
 use Rattle.hc_objects.proofs.Linked.{call-linkable, call-may, call-room, call-world, call-sound, call-needs, call-protos}
 use Rattle.hc_objects.proofs.Shown.{fast-has}
-use Rattle.hc_objects.specs.Rest.{StartsByMark}
+use Rattle.hc_objects.specs.Rest.{Relinks}
 use Rattle.hc_objects.specs.Linking.{IsRelinked}
-use Rattle.hc_objects.proofs.Marking.{maps-kept, starts-by}
+use Rattle.hc_objects.proofs.Marking.{shared-relink}
+use Rattle.hc_objects.proofs.Relinked.{proto-before}
 use Rattle.hc_objects.proofs.objects.Objects.link_shared.Goals as goal
 
 pub map_of-map-requires : goal.map_of-map-requires
@@ -90,13 +91,16 @@ returns-clause-protos g c =
     call-protos _ _ c.args.o c.args.proto c.self.view_is c.self.invariant c.requires.object c.requires.fast c.requires.shared c.map_of-map.new.h.view c.gate.new.self.view c.map_of-map.result c.unwrap-gate.result read again c.map_of-map.ensures.map gate c.maps_are_kept.ensures.law c.details_rise.ensures.law c.gates_are_open.ensures.law c.changes_keep.ensures.law c.link_object.new.h.view c.link_object.new.of_null c.link_object.result c.link_object.ensures.relinked
     (λ no. ap (λ (s : HeapState g.row.P.Denot). s.view) (c.link_object.ensures.still no))
 
-pub returns-clause-starts : goal.returns-clause-starts
-returns-clause-starts g c = λ yes.
+pub returns-clause-relinks : goal.returns-clause-relinks
+returns-clause-relinks g c = λ yes.
     let v = c.self.inside.heap.view in
     let w = c.link_object.new.h.view in
     let m = c.map_of-map.result in
     let n = c.unwrap-gate.result.entries in
     let same : c.gate.new.self.view ≡ v = ap (λ (s : HeapState g.row.P.Denot). s.view) c.gate.ensures.new ∙ ap (λ (s : HeapState g.row.P.Denot). s.view) c.map_of-map.ensures.new in
+    let shared : (root_in v.trail c.args.o).is_proto ≡ false = subst (λ (s : ObjectsState g.row.P.Denot). (root_in s.heap.view.trail c.args.o).is_proto ≡ false) (sym c.self.view_is) c.requires.shared in
+    let gate : gate_in v.trail m ≡ Some c.unwrap-gate.result = ap (λ (x : View). gate_in x.trail m) (sym (ap (λ (s : HeapState g.row.P.Denot). s.view) c.map_of-map.ensures.new)) ∙ sym c.gate.ensures.value ∙ c.unwrap-gate.ensures in
     let it : IsRelinked v w c.self.inside.of_null c.link_object.new.of_null c.args.o m n c.args.proto = subst (λ (x : View). IsRelinked x w c.self.inside.of_null c.link_object.new.of_null c.args.o m n c.args.proto) same (c.link_object.ensures.relinked yes) in
-    subst (λ (s : ObjectsState g.row.P.Denot). StartsByMark s.heap.view.trail w.trail c.args.o) c.self.view_is
-    (starts-by v.trail w.trail c.args.o m it.more c.map_of-map.ensures.map it.after (maps-kept v w c.args.o it.changed))
+    subst (λ (s : ObjectsState g.row.P.Denot). Relinks s.heap.view.trail w.trail c.args.o c.args.proto) c.self.view_is
+    (shared-relink v w c.self.inside.of_null c.link_object.new.of_null c.args.o m n c.args.proto c.map_of-map.ensures.map shared
+    (λ k is named. proto-before c.maps_are_kept.ensures.law c.details_rise.ensures.law c.gates_are_open.ensures.law v w c.args.o m k c.args.proto c.unwrap-gate.result c.self.invariant.heap gate it.changed is named) it)

@@ -7,10 +7,11 @@ use Rattle.hc_tree.specs.Tree.{IsTree}
 use Rattle.hc_table.specs.Changes.{Moved}
 use Rattle.hc_objects.specs.Becoming.{HasBecome, with_proto}
 use Rattle.hc_objects.specs.Came.{Steps, HowBecame}
-use Rattle.hc_objects.specs.Meaning.{kept_of, world, Dictionary, cause_in}
+use Rattle.hc_objects.specs.Meaning.{kept_of, world, cause_in}
+use Rattle.hc_slots.specs.Meaning.{Dictionary}
 use Rattle.hc_objects.specs.State.{ObjectsState, IsObjects}
 use Rattle.hc_objects.proofs.Prototypes.{became-proto, slow-proto-sound, slow-proto-world, slow-none}
-use Rattle.hc_objects.proofs.Rising.{some-of}
+use Rattle.hc_slots.specs.Cases.{some-of}
 use Rattle.hc_objects.proofs.Shown.{within}
 use Rattle.hc_objects.proofs.objects.Objects.mark_slow.Goals as goal
 

@@ -1,5 +1,5 @@
 use Rattle.std.proofs.Common.{◌≡◌, ◌<◌, true, false, None, length, ap, sym, ◌∙◌, subst, arith}
-use Rattle.hc_objects.proofs.Marking.{owned-copy, owned-marks}
+use Rattle.hc_objects.proofs.Marking.{owned-copy, owned-marks, owned-own}
 use Rattle.hc_heap.specs.Frames.{goes-on}
 use Rattle.hc_heap.specs.States.{View, HeapState}
 use Rattle.hc_heap.specs.Readings.{root_in}
@@ -11,7 +11,8 @@ use Rattle.hc_table.specs.Changes.{Moved}
 use Rattle.hc_objects.specs.Becoming.{HasBecome, IsOwned}
 use Rattle.hc_objects.specs.Came.{Steps, HowBecame}
 use Rattle.hc_objects.specs.Meaning.{kept_of}
-use Rattle.hc_objects.specs.State.{ObjectsState, HasMap}
+use Rattle.hc_objects.specs.State.{ObjectsState}
+use Rattle.hc_slots.specs.Fast.{HasMap}
 use Rattle.hc_objects.specs.Modes.{proto_need}
 use Rattle.hc_objects.proofs.Become.{proto-copy}
 use Rattle.hc_objects.proofs.Owned.{own-sound, own-world}
@@ -125,4 +126,4 @@ returns-clause-how g c =
     let it : IsOwned v new p m = subst (λ (w : View). IsOwned w new p m) read c.take_own_map.ensures.owned in
     let after : ObjectsState g.row.P.Denot = record { heap = c.take_own_map.new.h; kept = c.self.inside.kept.items; of_null = c.self.inside.of_null } in
     subst (λ (s : ObjectsState g.row.P.Denot). HowBecame s p after) c.self.view_is
-    (record { marks = owned-marks v new p m c.map_of-map.ensures.map it; owns = λ k is shared fast. owned-copy v new p m k c.map_of-map.ensures.map it is })
+    (record { marks = owned-marks v new p m c.map_of-map.ensures.map it; own = λ x is shared. owned-own v new p m x it is; owns = λ k is shared fast. owned-copy v new p m k c.map_of-map.ensures.map it is })

@@ -13,7 +13,7 @@ use Rattle.hc_objects.specs.Came.{Steps}
 use Rattle.hc_objects.specs.Meaning.{kept_of, world}
 use Rattle.hc_objects.specs.State.{ObjectsState}
 use Rattle.hc_objects.proofs.Shown.{within}
-use Rattle.hc_objects.proofs.Sound.{some-is}
+use Rattle.hc_slots.specs.Cases.{some-is}
 use Rattle.hc_objects.proofs.Shrinking.{has-parent, map-there, parent-there, parent-filled, shrunk-world, shrunk-sound, parent-other}
 use Rattle.hc_objects.proofs.Writing.{Laws, has-map}
 use Rattle.hc_objects.specs.Rest.{Marks}

@@ -6,7 +6,8 @@ use Rattle.hc_tree.specs.Needs.{HasSpace, with_need}
 use Rattle.hc_table.specs.Changes.{Moved}
 use Rattle.hc_objects.specs.Becoming.{HasSpare, IsSpare}
 use Rattle.hc_objects.specs.Changes.{KeptBut}
-use Rattle.hc_objects.specs.Meaning.{Dictionary, cause_in}
+use Rattle.hc_slots.specs.Meaning.{Dictionary}
+use Rattle.hc_objects.specs.Meaning.{cause_in}
 use Rattle.hc_objects.specs.Modes.{Becomes, StaysFast, if_fast, proto_need}
 use Rattle.hc_objects.proofs.Become.{with-none}
 use Rattle.hc_objects.proofs.Composing.{no-cause, steps-on}

@@ -1,74 +1,70 @@
-use Rattle.std.proofs.Common.{◌≡◌, ℕ, ◌+◌, ◌<◌, Option, Some, None, length, ap, sym, subst}
-use Rattle.std.specs.Prelude.{IsSomeAnd}
+use Rattle.std.proofs.Common.{◌≡◌, ◌∙◌, ℕ, ◌<◌, List, Option, Some, None, length, ap, sym, subst}
+use Rattle.hc_layout.specs.declared.shape.Shape.{Shape}
 use Rattle.hc_value.specs.Prop.{kind_of}
-use Rattle.hc_heap.specs.Writes.{Slot}
-use Rattle.hc_heap.specs.Readings.{bits_in, map_in, store_in}
-use Rattle.hc_heap.specs.States.{View, with_write}
+use Rattle.hc_heap.specs.Readings.{bits_in, map_in, root_in}
+use Rattle.hc_heap.specs.States.{View}
 use Rattle.hc_table.specs.Changes.{Wrote, kind_at}
-use Rattle.hc_table.specs.World.{props_at}
-use Rattle.hc_objects.specs.Came.{Steps}
-use Rattle.hc_objects.specs.Meaning.{kept_of, world}
-use Rattle.hc_objects.proofs.Shown.{within}
+use Rattle.hc_table.specs.World.{World, props_at}
+use Rattle.hc_slots.specs.Meaning.{Dictionary}
+use Rattle.hc_objects.specs.Came.{IsStill, world_of}
+use Rattle.hc_objects.specs.Meaning.{kept_of}
 use Rattle.hc_objects.specs.State.{ObjectsState}
-use Rattle.hc_objects.proofs.Writing.{Laws, slot-there, write-world, write-sound}
-use Rattle.hc_objects.specs.Rest.{Marks}
+use Rattle.hc_objects.proofs.Admitted.{admitted-bits, admitted-maps, admitted-roots, kind-place}
+use Rattle.hc_objects.proofs.Composing.{steps-on, still-steps}
 use Rattle.hc_objects.proofs.Marking.{same-marks}
 use Rattle.hc_objects.proofs.objects.Objects.write_fast.Goals as goal
 
-used-same : (old new : View) (i w : ℕ) (first : Option ℕ) → IsSomeAnd first (λ x. new ≡ with_write old (Slot (x + i) w)) → new.used.objects ≡ old.used.objects
-used-same old new i w (Some x) e = ap (λ (v : View). v.used.objects) e
-used-same old new i w None e = absurd e
+pub prop_at-was-requires-clause-place : goal.prop_at-was-requires-clause-place
+prop_at-was-requires-clause-place g c = kind-place (props_at (world_of c.args.self.now) c.args.o) c.args.i (kind_of c.args.held) c.requires.kind
 
-shape-same : (old new : View) (i w : ℕ) (first : Option ℕ) → IsSomeAnd first (λ x. new ≡ with_write old (Slot (x + i) w)) → new.shape ≡ old.shape
-shape-same old new i w (Some x) e = ap (λ (v : View). v.shape) e
-shape-same old new i w None e = absurd e
+pub admit_held-requires : goal.admit_held-requires
+admit_held-requires g c =
+    let a = c.args.self.now in
+    let still : IsStill a c.prop_at-was.new.self = c.prop_at-was.ensures.still in
+    record {
+      object = subst (λ (s : ObjectsState g.row.P.Denot). c.args.o < length (world_of s)) (sym still.is) c.requires.object;
+      fast = subst (λ (s : ObjectsState g.row.P.Denot). kept_of s.kept c.args.o ≡ None) (sym still.is) c.requires.fast;
+      kind = subst (λ (s : ObjectsState g.row.P.Denot). kind_at (props_at (world_of s) c.args.o) c.args.i ≡ Some (kind_of c.args.held)) (sym still.is) c.requires.kind;
+    }
 
-marks-same : (old new : View) (o i w : ℕ) (first : Option ℕ) → IsSomeAnd first (λ x. new ≡ with_write old (Slot (x + i) w)) → Marks old.trail new.trail o
-marks-same old new o i w (Some x) e = same-marks old.trail new.trail o (λ m. ap (λ (v : View). bits_in v.trail m) e) (λ q. ap (λ (v : View). map_in v.trail q) e)
-marks-same old new o i w None e = absurd e
-
-pub put_slot-requires-clause-within : goal.put_slot-requires-clause-within
-put_slot-requires-clause-within g c =
-    let laws : Laws = record { maps = c.maps_are_kept.ensures.law; details = c.details_rise.ensures.law; trees = c.trees_stay.ensures.law; unused = c.unused_says_nothing.ensures.law; gates = c.gates_are_open.ensures.law; changes = c.changes_keep.ensures.law } in
-    let old = c.self.inside.heap.view in
-    let kept = c.self.inside.kept.items in
-    let there : c.args.o < length kept = within _ _ c.args.o c.self.view_is c.requires.object in
-    let fast : kept_of kept c.args.o ≡ None = subst (λ (s : ObjectsState g.row.P.Denot). kept_of s.kept c.args.o ≡ None) (sym c.self.view_is) c.requires.fast in
-    let kind : kind_at (props_at (world old.trail kept) c.args.o) c.args.i ≡ Some (kind_of c.args.held) =
-    subst (λ (s : ObjectsState g.row.P.Denot). kind_at (props_at (world s.heap.view.trail s.kept) c.args.o) c.args.i ≡ Some (kind_of c.args.held)) (sym c.self.view_is) c.requires.kind in
-    slot-there laws old kept c.self.inside.of_null c.self.invariant c.args.o there fast c.args.i c.args.held kind
-
-pub invariant_of-self : goal.invariant_of-self
-invariant_of-self g c =
-    let laws : Laws = record { maps = c.maps_are_kept.ensures.law; details = c.details_rise.ensures.law; trees = c.trees_stay.ensures.law; unused = c.unused_says_nothing.ensures.law; gates = c.gates_are_open.ensures.law; changes = c.changes_keep.ensures.law } in
-    let old = c.self.inside.heap.view in
-    let kept = c.self.inside.kept.items in
-    let there : c.args.o < length kept = within _ _ c.args.o c.self.view_is c.requires.object in
-    let fast : kept_of kept c.args.o ≡ None = subst (λ (s : ObjectsState g.row.P.Denot). kept_of s.kept c.args.o ≡ None) (sym c.self.view_is) c.requires.fast in
-    let kind : kind_at (props_at (world old.trail kept) c.args.o) c.args.i ≡ Some (kind_of c.args.held) =
-    subst (λ (s : ObjectsState g.row.P.Denot). kind_at (props_at (world s.heap.view.trail s.kept) c.args.o) c.args.i ≡ Some (kind_of c.args.held)) (sym c.self.view_is) c.requires.kind in
-    write-sound laws old kept c.self.inside.of_null c.self.invariant c.args.o there fast c.args.i c.args.held kind c.held_word-word.result c.held_word-word.ensures.form c.held_word-word.ensures.holds c.requires.range c.put_slot.new.h.view
-    (used-same old c.put_slot.new.h.view c.args.i c.held_word-word.result (store_in old.trail c.args.o).first c.put_slot.ensures.view) c.put_slot.ensures.view c.put_slot.ensures.heap
+pub store_held-requires : goal.store_held-requires
+store_held-requires g c =
+    let a = c.args.self.now in
+    let still : IsStill a c.prop_at-was.new.self = c.prop_at-was.ensures.still in
+    let object = subst (λ (s : ObjectsState g.row.P.Denot). c.args.o < length (world_of s)) (sym still.is) c.requires.object in
+    let fast = subst (λ (s : ObjectsState g.row.P.Denot). kept_of s.kept c.args.o ≡ None) (sym still.is) c.requires.fast in
+    let kind = subst (λ (s : ObjectsState g.row.P.Denot). kind_at (props_at (world_of s) c.args.o) c.args.i ≡ Some (kind_of c.args.held)) (sym still.is) c.requires.kind in
+    record {
+      object = subst (λ (w : World). c.args.o < length w) (sym c.admit_held.ensures.steps.world) object;
+      fast = subst (λ (k : List (Option Dictionary)). kept_of k c.args.o ≡ None) (sym c.admit_held.ensures.kept) fast;
+      kind = subst (λ (w : World). kind_at (props_at w c.args.o) c.args.i ≡ Some (kind_of c.args.held)) (sym c.admit_held.ensures.steps.world) kind;
+      range = c.requires.range;
+    }
 
 pub returns-clause-steps : goal.returns-clause-steps
 returns-clause-steps g c =
-    let laws : Laws = record { maps = c.maps_are_kept.ensures.law; details = c.details_rise.ensures.law; trees = c.trees_stay.ensures.law; unused = c.unused_says_nothing.ensures.law; gates = c.gates_are_open.ensures.law; changes = c.changes_keep.ensures.law } in
-    let old = c.self.inside.heap.view in
-    let kept = c.self.inside.kept.items in
-    let there : c.args.o < length kept = within _ _ c.args.o c.self.view_is c.requires.object in
-    let fast : kept_of kept c.args.o ≡ None = subst (λ (s : ObjectsState g.row.P.Denot). kept_of s.kept c.args.o ≡ None) (sym c.self.view_is) c.requires.fast in
-    let kind : kind_at (props_at (world old.trail kept) c.args.o) c.args.i ≡ Some (kind_of c.args.held) =
-    subst (λ (s : ObjectsState g.row.P.Denot). kind_at (props_at (world s.heap.view.trail s.kept) c.args.o) c.args.i ≡ Some (kind_of c.args.held)) (sym c.self.view_is) c.requires.kind in
-    let after : ObjectsState g.row.P.Denot = record { heap = c.put_slot.new.h; kept = kept; of_null = c.self.inside.of_null } in
-    subst (λ (s : ObjectsState g.row.P.Denot). Steps g.P.Pace.went s (Wrote c.args.o c.args.i c.args.held) after) c.self.view_is (record {
-      world = write-world laws old kept c.self.inside.of_null c.self.invariant c.args.o there fast c.args.i c.args.held kind c.held_word-word.result c.held_word-word.ensures.form c.held_word-word.ensures.holds c.put_slot.new.h.view c.put_slot.ensures.view c.put_slot.ensures.heap;
-      shape = shape-same old c.put_slot.new.h.view c.args.i c.held_word-word.result (store_in old.trail c.args.o).first c.put_slot.ensures.view;
-      goes = c.put_slot.ensures.goes;
-      went = c.put_slot.ensures.went;
-    })
+    let a = c.args.self.now in
+    let b = c.prop_at-was.new.self in
+    let law = g.met.P.Pace.goes_on in
+    steps-on g.P.Pace.went law a b c.store_held.new.self (Wrote c.args.o c.args.i c.args.held)
+    (still-steps g.P.Pace.went g.met.P.Pace.stays a b c.prop_at-was.ensures.still)
+    (steps-on g.P.Pace.went law b c.admit_held.new.self c.store_held.new.self (Wrote c.args.o c.args.i c.args.held) c.admit_held.ensures.steps c.store_held.ensures.steps)
+
+pub returns-clause-used : goal.returns-clause-used
+returns-clause-used g c =
+    c.store_held.ensures.used ∙ (ap (λ (v : View). v.used) c.admit_held.ensures.admitted.view ∙ ap (λ (s : ObjectsState g.row.P.Denot). s.heap.view.used) c.prop_at-was.ensures.still.is)
+
+pub returns-clause-protos : goal.returns-clause-protos
+returns-clause-protos g c q =
+    let b = c.prop_at-was.new.self.heap.view in
+    ap (λ r. r.is_proto) (c.store_held.ensures.roots q ∙ (admitted-roots b c.admit_held.new.self.heap.view c.args.o c.args.i c.args.held c.constness_for-constness.result c.admit_held.ensures.admitted q
+    ∙ ap (λ (s : ObjectsState g.row.P.Denot). root_in s.heap.view.trail q) c.prop_at-was.ensures.still.is))
 
 pub returns-clause-marks : goal.returns-clause-marks
 returns-clause-marks g c =
-    let old = c.self.inside.heap.view in
-    subst (λ (s : ObjectsState g.row.P.Denot). Marks s.heap.view.trail c.put_slot.new.h.view.trail c.args.o) c.self.view_is
-    (marks-same old c.put_slot.new.h.view c.args.o c.args.i c.held_word-word.result (store_in old.trail c.args.o).first c.put_slot.ensures.view)
+    let b = c.prop_at-was.new.self.heap.view in
+    same-marks c.args.self.now.heap.view.trail c.store_held.new.self.heap.view.trail c.args.o
+    (λ m. c.store_held.ensures.bits m ∙ (admitted-bits b c.admit_held.new.self.heap.view c.args.o c.args.i c.args.held c.constness_for-constness.result c.admit_held.ensures.admitted m
+    ∙ ap (λ (s : ObjectsState g.row.P.Denot). bits_in s.heap.view.trail m) c.prop_at-was.ensures.still.is))
+    (λ q. c.store_held.ensures.maps q ∙ (admitted-maps b c.admit_held.new.self.heap.view c.args.o c.args.i c.args.held c.constness_for-constness.result c.admit_held.ensures.admitted q
+    ∙ ap (λ (s : ObjectsState g.row.P.Denot). map_in s.heap.view.trail q) c.prop_at-was.ensures.still.is))
