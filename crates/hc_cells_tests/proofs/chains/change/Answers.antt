@@ -1,0 +1,12 @@
+use Rattle.hc_cells_tests.specs.Ready.{protos}
+use Rattle.hc_cells_tests.proofs.Ready.{ready-changed, slow-ends}
+use Rattle.hc_cells_tests.proofs.chains.change.Goals as goal
+
+pub invalidate-requires-clause-ends : goal.invalidate-requires-clause-ends
+invalidate-requires-clause-ends c = slow-ends c.args.heap.now.view.trail c.requires.ready.slow
+
+pub returns : goal.returns
+returns c = record {
+  ready = ready-changed c.args.heap.now.view c.invalidate.new.h.view c.requires.ready protos c.args.object
+      c.invalidate.ensures.view c.invalidate.ensures.writes c.invalidate.ensures.cells;
+}
