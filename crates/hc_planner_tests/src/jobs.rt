@@ -12,7 +12,7 @@ use std::test::Fail;
 
 type Deps = [Option<Dep>; 6];
 
-const NONE: usize = usize::MAX;
+pub const NONE: usize = usize::MAX;
 
 // A row: the operation, the map and the name; the number of looks; the way and the dependencies.
 const PLANS: [(Op, u32, u32, u64, Way, Deps); 16] = [
@@ -268,7 +268,7 @@ const PLANS: [(Op, u32, u32, u64, Way, Deps); 16] = [
 ];
 
 // A row: the operation, the map and the name; the number of looks; the skip.
-const SKIPS: [(Op, u32, u32, u64, Skip); 7] = [
+pub const SKIPS: [(Op, u32, u32, u64, Skip); 7] = [
     (Op::Load, 7, 1, 1, Skip::Dead(7)),
     (Op::Load, 8, 1, 4, Skip::SlowHolder(1)),
     (Op::Load, 11, 1, 51, Skip::Deep(18)),
@@ -312,7 +312,7 @@ fn answers(plan: &Plan, way: Way, deps: &Deps) -> bool {
 }
 
 // Whether these are the skips.
-fn skips(outcome: &Outcome, skip: Option<Skip>) -> bool {
+pub fn skips(outcome: &Outcome, skip: Option<Skip>) -> bool {
     match outcome {
         Outcome::NoPlan(Why::Skips(list)) => list.at(0).copied() == skip && list.at(1).is_none(),
         _ => false,
