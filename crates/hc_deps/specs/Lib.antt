@@ -1,0 +1,5 @@
+pub mod Image
+pub mod Looks
+pub mod Holds
+pub mod Trails
+pub mod Verdicts

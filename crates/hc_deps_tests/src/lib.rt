@@ -1,0 +1,11 @@
+//! Tests of dependencies and of the use of plans, over a board that is written by hand.
+#![tactic(auto)]
+
+#[cfg(test)]
+mod answers;
+#[cfg(test)]
+mod board;
+#[cfg(test)]
+mod deps;
+#[cfg(test)]
+mod verdicts;
