@@ -1,0 +1,15 @@
+pub mod Answers
+pub mod Applied
+pub mod Borne
+pub mod Breaks
+pub mod Constants
+pub mod Finding
+pub mod Installed
+pub mod Laws
+pub mod Meaning
+pub mod Moments
+pub mod Readable
+pub mod Reads
+pub mod Rest
+pub mod Right
+pub mod Told
