@@ -1,2 +1,4 @@
 pub mod Fronts
 mod Spaced
+mod Tallies
+pub mod Trues

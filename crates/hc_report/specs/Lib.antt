@@ -3,3 +3,4 @@ pub mod Named
 pub mod Text
 pub mod Lines
 pub mod Logs
+pub mod Summary

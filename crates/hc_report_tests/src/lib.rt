@@ -1,4 +1,4 @@
-//! Tests of sites, and of the texts of replies and log lines.
+//! Tests of sites, of the texts of replies and log lines, and of the summary of a run.
 #![tactic(auto)]
 
 #[cfg(test)]
@@ -9,3 +9,5 @@ mod logs;
 mod replies;
 #[cfg(test)]
 mod sites;
+#[cfg(test)]
+mod summary;

@@ -4,3 +4,5 @@ pub mod Passing
 pub mod PlainLine
 pub mod Taking
 pub mod Turns
+pub mod Generated
+pub mod Asking

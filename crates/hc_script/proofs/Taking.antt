@@ -1,5 +1,5 @@
 -- A line taken from the front of what lies ahead.
-use Rattle.std.proofs.Common.{◌≡◌, ℕ, List, [], ◌∷◌, ◌++◌, take, drop, length, refl, Option, Some, None, Result, Ok, Err, IfOk, IfErr, OnOk}
+use Rattle.std.proofs.Common.{◌≡◌, ℕ, List, [], ◌++◌, take, drop, length, refl, Option, Some, None, Result, Ok, Err, IfOk, IfErr, OnOk}
 use Rattle.std.proofs.lemmas.List.{length-take-le}
 use Rattle.hc_lines.specs.Lines.{lines_of, ahead}
 use Rattle.hc_lines.specs.Fetch.{IsFirstLine}

@@ -1,3 +1,6 @@
+pub mod Generator
+pub mod GeneratorView
+pub mod GeneratorWords
 pub mod Line
 pub mod Reader
 pub mod ReaderView

@@ -1,5 +1,5 @@
 -- What a line means by itself.
-use Rattle.std.specs.Prelude.{◌≡◌, ◌⊎◌, ℕ, ◌<◌, ◌≤◌, Bool, List, true, false, ◌&&◌, length, nat_le}
+use Rattle.std.specs.Prelude.{◌≡◌, ◌⊎◌, ℕ, ◌<◌, ◌≤◌, Bool, List, true, false, length}
 use Rattle.std.specs.List.{list_all}
 use Rattle.hc_names.specs.declared.TheConstants.{MAX_NAMES}
 use Rattle.hc_lines.specs.Lines.{content, IsLong, IsShort}

@@ -1,6 +1,7 @@
 //! What the definitions of the script say of every line, for proofs above.
 ghost use Rattle.std.specs.Prelude.{◌≡◌, ℕ, List};
 ghost use Rattle.hc_commands.specs.declared.command.Command.{Command};
+ghost use Rattle.hc_script.specs.GeneratorWords.{AskForScript};
 ghost use Rattle.hc_script.specs.Reading.{Position, IsPassed, IsAsked, IsRefused};
 ghost use Rattle.hc_script.specs.declared.fault.What.{What};
 
@@ -29,3 +30,9 @@ pub fn lines_have_one_meaning()
 {
     forms_are_told_apart();
 }
+
+/// Words ask for one script at most that is made from a number.
+pub fn words_ask_for_one_script()
+    ensures { (words : List (List ℕ)) (n m start begin : ℕ) → AskForScript words n start → AskForScript words m begin
+        → (n ≡ m) × (start ≡ begin) }
+{}

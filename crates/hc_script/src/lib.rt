@@ -2,12 +2,14 @@
 #![tactic(auto)]
 
 mod fault;
+mod generator;
 pub mod laws;
 mod line;
 mod reader;
 mod script;
 
 pub use fault::{ScriptFault, Status, What};
+pub use generator::{GenRequest, Generator, gen_request};
 pub use hc_commands::{Command, Op, Reads};
 pub use hc_lines::{Bytes, Calls, Cuts, Failed, MemSink, MemSource, Sink, Source};
 pub use reader::{Phase, ScriptReader};
