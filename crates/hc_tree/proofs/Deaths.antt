@@ -19,7 +19,7 @@ use Rattle.hc_tree.specs.Tree.{IsChildFor, IsSoundLink, IsTree, gate_with}
 use Rattle.hc_tree.specs.Walking.{above, ancestor, parent_of}
 use Rattle.hc_tree.specs.Dying.{Deprecates, IsDeprecated, IsUnder, MayDie, dead_bits}
 use Rattle.hc_tree.proofs.Keeping.{Lives, array-kept, goes-by, tree-kept}
-use Rattle.hc_tree.proofs.Owners.{dies-same}
+use Rattle.hc_tree.specs.Frames.{dies-same}
 
 -- how many links come from here on, up to a bound
 abbrev pub steps : ℕ → Trail → Option ℕ → ℕ

@@ -15,16 +15,18 @@ use Rattle.hc_descs.specs.Entries.{field_at}
 use Rattle.hc_fields.specs.Fields.{raised}
 use Rattle.hc_tree.specs.Kept.{MapsAreKept, MapsStay}
 use Rattle.hc_tree.specs.Tree.{IsTree, gate_with}
+use Rattle.hc_tree.specs.Growth.{live_child}
 use Rattle.hc_tree.specs.Details.{NoMap, Reshapes, WritesDetails, detail_of, detail_at, joined_with}
 use Rattle.hc_tree.specs.Walking.{AreJoined, GetsJoin, both_details, joined_at}
-use Rattle.hc_tree.proofs.Joins.{Raised, raised-case, raised-writes}
+use Rattle.hc_tree.proofs.Joins.{Raised, live-same, raised-case, raised-writes}
 use Rattle.hc_tree.proofs.Opening.{cond-other, same-or}
 
-pub joined-none : (v : View) (end m count n : ℕ) → IsHeap v → IsTree v.trail → AreJoined v v end m count n 0
-joined-none v end m count n heap tree = record {
+pub joined-none : (v : View) (end m stop count n : ℕ) → IsHeap v → IsTree v.trail → AreJoined v v end m stop count n 0
+joined-none v end m stop count n heap tree = record {
   view = refl;
   writes = adds-none v.trail;
   only = adds-none v.trail;
+  lives = λ x key. refl;
   joined = λ j lt. absurd (omega (arith, lt));
   rest = λ j le lt. refl;
   others = λ j le lt. refl;
@@ -52,8 +54,11 @@ join-both : (o a b : Option Detail) (d : Detail) → IsSome o → o ≡ a → So
 join-both (Some e) a b d some is same = ap (λ (x : Option Detail). both_details (Some e) x) same ∙ ap (λ (x : Option Detail). both_details x b) is
 join-both None a b d some is same = let n : ⊥ = cc in absurd n
 
-module _ (law : MapsAreKept) (a b c : View) (end m count n k : ℕ) (d : Detail) (heap : IsHeap a) (at_end : gate_in a.trail end ≡ Some (gate_with count false)) (at_map : gate_in a.trail m ≡ Some (gate_with n false)) (within : count ≤ n) (lt : k < count)
-    (it : AreJoined a b end m count n k) (up : Raised b c end k d) (is : detail_at b.trail m k ≡ Some d) (joins : detail_at c.trail end k ≡ Some (joined_with (detail_at b.trail end k) d)) (tree : IsTree c.trail) (heap_c : IsHeap c) where
+module _ (law : MapsAreKept) (a b c : View) (end m stop count n k : ℕ) (d : Detail) (heap : IsHeap a) (at_end : gate_in a.trail end ≡ Some (gate_with count false)) (at_map : gate_in a.trail m ≡ Some (gate_with n false)) (within : count ≤ n) (upto : stop ≤ count) (below_stop : k < stop)
+    (it : AreJoined a b end m stop count n k) (up : Raised b c end k d) (is : detail_at b.trail m k ≡ Some d) (joins : detail_at c.trail end k ≡ Some (joined_with (detail_at b.trail end k) d)) (tree : IsTree c.trail) (heap_c : IsHeap c) where
+  lt : k < count
+  lt = omega (arith, upto, below_stop)
+
   same-shape : b.shape ≡ a.shape
   same-shape = ap (λ (v : View). v.shape) it.view
 
@@ -84,20 +89,21 @@ module _ (law : MapsAreKept) (a b c : View) (end m count n k : ℕ) (d : Detail)
   apart x j g gate below other = subst (λ (t : Trail). detail_at t x j ≡ detail_at b.trail x j) (sym trail-c)
       (at-other b.trail up.field d x j (λ at. other (it.tree.places x end g (gate_with count false) j k up.field gate end-b below lt at up.at)))
 
-  gets : (e : Detail) → detail_in b.trail up.field ≡ Some e → GetsJoin a.trail end m count up.field (joined_detail e d)
+  gets : (e : Detail) → detail_in b.trail up.field ≡ Some e → GetsJoin a.trail end m stop up.field (joined_detail e d)
   gets e was = record {
     place = k;
-    within = lt;
+    within = below_stop;
     field = sym (kept.entry end k (gate_with count false) at_end lt).field ∙ up.at;
     joined = here ∙ ap (λ (o : Option Detail). Some (joined_with o d)) (ap (detail_of b.trail) up.at ∙ was);
   }
 
-  pub joined-more : AreJoined a c end m count n (k + 1)
+  pub joined-more : AreJoined a c end m stop count n (k + 1)
   joined-more = record {
     view = up.view ∙ ap (λ (v : View). record v { trail = raised b.trail up.field d }) it.view ∙ ap (λ (t : Trail). record a { trail = t }) (sym trail-c);
-    writes = adds-on it.writes (subst (λ (t : Trail). Adds (Reshapes a.used NoMap (GetsJoin a.trail end m count)) b.trail t) (sym trail-c)
-        (raised-case (Adds (Reshapes a.used NoMap (GetsJoin a.trail end m count)) b.trail) b.trail up.field d (adds-none b.trail) (λ e was. adds-one b.trail (FieldDetail up.field (joined_detail e d)) (gets e was))));
+    writes = adds-on it.writes (subst (λ (t : Trail). Adds (Reshapes a.used NoMap (GetsJoin a.trail end m stop)) b.trail t) (sym trail-c)
+        (raised-case (Adds (Reshapes a.used NoMap (GetsJoin a.trail end m stop)) b.trail) b.trail up.field d (adds-none b.trail) (λ e was. adds-one b.trail (FieldDetail up.field (joined_detail e d)) (gets e was))));
     only = adds-on it.only (subst (λ (t : Trail). Adds WritesDetails b.trail t) (sym trail-c) (raised-writes b.trail up.field d));
+    lives = λ x key. ap (λ (t : Trail). live_child t x key) trail-c ∙ live-same b.trail (raised b.trail up.field d) (raised-writes b.trail up.field d) x key ∙ it.lives x key;
     joined = λ j below. same-or j k (detail_at c.trail end j ≡ joined_at a.trail end m j)
         (λ same. ap (detail_at c.trail end) same ∙ joins ∙ sym here ∙ ap (joined_at a.trail end m) (sym same))
         (λ other. let before : j < k = omega (arith, below, other) in apart end j (gate_with count false) end-b (omega (arith, before, lt)) other ∙ it.joined j before);

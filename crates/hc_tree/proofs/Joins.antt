@@ -1,5 +1,5 @@
 -- Joins of details that aren't wide, and trails in which details alone rise.
-use Rattle.std.proofs.Common.{◌≡◌, ◌≢◌, ℕ, Bool, true, false, cond, Option, Some, None, List, [], ◌∷◌, refl, sym, ap, ◌∙◌, subst, IsSome}
+use Rattle.std.proofs.Common.{◌≡◌, ◌≢◌, ℕ, ◌+◌, Bool, true, false, cond, Option, Some, None, List, [], ◌∷◌, refl, sym, ap, ◌∙◌, subst, arith, IsSome}
 use Rattle.std.specs.Prelude.{IsTrue, IsSomeAnd}
 use Rattle.hc_layout.specs.declared.shape.Shape.{Shape}
 use Rattle.hc_layout.specs.declared.words.ArrayWord.{ArrayWord}
@@ -235,6 +235,12 @@ module _ (law : MapsAreKept) (v w : View) (m c n : ℕ) (key : Key) (d : Detail)
 
   pub raised-ends : detail_at w.trail c n ≡ Some (joined_with (detail_at v.trail c n) d) → EndsWith w.trail c n key (joined_with (detail_at v.trail c n) d)
   raised-ends is = ends-of w.trail c n key (joined_with (detail_at v.trail c n) d) then.last then.field is
+
+  -- what its last field admits then
+  pub raised-got : detail_at w.trail c n ≡ Some (joined_with (detail_at v.trail c n) d) → (first f : ℕ) (e : Detail) → ChildGets v.trail (Some c) n d first f e → detail_in w.trail f ≡ Some e
+  raised-got is first f e got =
+      let here : field_at w.trail c n ≡ Some f = (kept.entry c n (gate_with (n + 1) false) child.gate (omega arith)).field ∙ got.0 in
+      sym (ap (detail_of w.trail) here) ∙ (is ∙ (ap (λ (o : Option Detail). Some (joined_with o d)) (ap (detail_of v.trail) got.0) ∙ ap (λ (x : Detail). Some x) (sym got.1)))
 
 -- The raise itself
 

@@ -14,6 +14,9 @@ pub mod Opening
 pub mod Ended
 pub mod Joined
 pub mod Walked
+pub mod Got
+pub mod Wants
 pub mod Rooted
 pub mod Owners
 pub mod Deaths
+pub mod Spared

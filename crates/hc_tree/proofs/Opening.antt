@@ -1,10 +1,10 @@
 -- Maps that are opened by a call, and are no roots.
-use Rattle.std.proofs.Common.{◌≡◌, ◌≢◌, ℕ, ◌+◌, ◌<◌, ◌≤◌, Bool, true, false, cond, eqb, eqb-true, eq-eqb, List, [], ◌∷◌, ◌++◌, Option, Some, None, IsSome, refl, sym, ap, ◌∙◌, subst, arith, true≢false}
+use Rattle.std.proofs.Common.{◌≡◌, ◌≢◌, ℕ, ◌+◌, ◌<◌, ◌≤◌, Bool, true, false, cond, eqb, eqb-true, eq-eqb, ◌∷◌, Option, Some, None, IsSome, refl, sym, ap, ◌∙◌, subst, arith, true≢false}
 use Rattle.hc_layout.specs.declared.shape.Shape.{Shape}
 use Rattle.hc_layout.specs.declared.words.GateWord.{GateWord}
 use Rattle.hc_heap.specs.Writes.{Write, Trail, Gate}
 use Rattle.hc_heap.specs.Readings.{gate_in, parent_in, prototype_in, bits_in}
-use Rattle.hc_heap.specs.Kept.{Adds, AllMeet, UnusedSaysNothing}
+use Rattle.hc_heap.specs.Kept.{Adds, UnusedSaysNothing}
 use Rattle.hc_heap.specs.Frames.{same-after}
 use Rattle.hc_heap.specs.States.{View, IsHeap}
 use Rattle.hc_heap.specs.declared.kind.Kind.TheVariants.{GateOfMap}
@@ -89,12 +89,3 @@ live-case t x c false is h = let same : x ≡ c = cc in subst (λ (y : ℕ). (bi
 pub live-bits : (t : Trail) (o : Option ℕ) (c : ℕ) → live_of t o ≡ Some c → (bits_in t c).deprecated ≡ false
 live-bits t (Some x) c e = live-case t x c (bits_in t x).deprecated refl e
 live-bits t None c e = let n : ⊥ = cc in absurd n
-
-over : (P : Trail → Write → Type 0) (Q : Trail → Type 0) → ((t : Trail) (w : Write) → P t w → Q t → Q (w ∷ t)) → (old : Trail) (more : List Write) → AllMeet P old more → Q old → Q (more ++ old)
-unfolding AllMeet
-over P Q h old [] all q = q
-over P Q h old (w ∷ more) all q = h (more ++ old) w all.1 (over P Q h old more all.0 q)
-
--- what each write of a class keeps is kept by a run of them
-pub kept-after : {P : Trail → Write → Type 0} (Q : Trail → Type 0) → ((t : Trail) (w : Write) → P t w → Q t → Q (w ∷ t)) → {a b : Trail} → Adds P a b → Q a → Q b
-kept-after {P} Q h {a} {b} x q = subst Q (sym x.is) (over P Q h a x.more x.meets q)

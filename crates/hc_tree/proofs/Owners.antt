@@ -6,11 +6,10 @@ use Rattle.hc_layout.specs.declared.shape.Shape.{Shape}
 use Rattle.hc_layout.specs.declared.words.GateWord.{GateWord}
 use Rattle.hc_layout.specs.declared.words.MapBits.{MapBits}
 use Rattle.hc_value.specs.declared.key.Key.{Key}
-use Rattle.hc_heap.specs.Writes.{Write, Trail, Bits}
+use Rattle.hc_heap.specs.Writes.{Trail, Bits}
 use Rattle.hc_heap.specs.Readings.{gate_in, parent_in, bits_in, owner_in, link_key_in, link_child_in}
 use Rattle.hc_heap.specs.Lawful.{Lawful}
-use Rattle.hc_heap.specs.Kept.{Adds}
-use Rattle.hc_heap.specs.Frames.{goes-still, same-after}
+use Rattle.hc_heap.specs.Frames.{goes-still}
 use Rattle.hc_heap.specs.States.{View}
 use Rattle.hc_descs.specs.Entries.{field_at, key_at}
 use Rattle.hc_links.specs.Chains.{child_of, is_key, links_in, newest_of}
@@ -18,7 +17,8 @@ use Rattle.hc_links.specs.Laws.{SameKeysAreEqual}
 use Rattle.hc_tree.specs.Kept.{MapsAreKept}
 use Rattle.hc_tree.specs.Tree.{HaveOneLive, IsChildFor, IsDeadFor, IsLedTo, IsSoundLink, IsTree, gate_with}
 use Rattle.hc_tree.specs.Growth.{live_of, live_child}
-use Rattle.hc_tree.specs.Dying.{Deprecates, IsDeprecated, IsOwnerOf}
+use Rattle.hc_tree.specs.Dying.{IsDeprecated, IsOwnerOf}
+use Rattle.hc_tree.specs.Frames.{dies-same}
 use Rattle.hc_tree.proofs.Ended.{parent-first}
 use Rattle.hc_tree.proofs.Opened.{key-of, live-is, not-key}
 use Rattle.hc_tree.proofs.Opening.{same-or, some-of}
@@ -183,14 +183,7 @@ one-live law t m c g key tree gate child live =
     let found : child_of t m key ≡ Some c = live-found law t m c it.link g key (links_in t m) sound.links sound.live it.there (it.is_key ∙ ap (λ (k : Key). Some k) same) it.leads live in
     ap (live_of t) found ∙ ap (λ (b : Bool). cond b None (Some c)) live
 
--- What deprecating leaves as it was
-
-pub dies-same : {T : Type 0} (top : Trail) (m : ℕ) (a b : Trail) (reading : Trail → T) → ((t : Trail) (c : ℕ) (w : MapBits) → reading (Bits c w ∷ t) ≡ reading t) → Adds (Deprecates top m) a b → reading b ≡ reading a
-dies-same top m a b reading h adds = same-after reading step adds
-  where
-    step : (t : Trail) (w : Write) → Deprecates top m t w → reading (w ∷ t) ≡ reading t
-    step t (Bits c w) e = h t c w
-    step t _ e = absurd e
+-- After a child was deprecated
 
 newest-step : (t : Trail) (c : ℕ) (w : MapBits) (ls : List ℕ) (key : Key) → newest_of (Bits c w ∷ t) ls key ≡ newest_of t ls key
 newest-step t c w [] key = refl

@@ -14,13 +14,13 @@ use Rattle.hc_heap.specs.Frames.{adds-none, adds-one, adds-on, adds-wider, goes-
 use Rattle.hc_heap.specs.States.{View, HeapState, IsHeap}
 use Rattle.hc_descs.specs.Entries.{field_at}
 use Rattle.hc_tree.specs.Details.{NoMap, Reshapes, detail_of, detail_at}
-use Rattle.hc_tree.specs.Frames.{reshapes-grow, reshapes-later}
+use Rattle.hc_tree.specs.Frames.{kept-after, reshapes-grow, reshapes-later}
 use Rattle.hc_tree.specs.Tree.{IsTree, IsRoot, gate_with}
 use Rattle.hc_tree.specs.Needs.{HasSpace, IsNoLess, IsWithin, walk_need, with_need}
 use Rattle.hc_tree.specs.Growth.{IsStill, IsUnmoved, root_of, root_need, with_root, with_named_root, of_null_after}
 use Rattle.hc_tree.specs.Kept.{MapsAreKept, MapsStay}
 use Rattle.hc_tree.specs.Walking.{AreRoots, GetsJoin, GetsSame, GrowsTree, HasMapFor, IsLiveEnd, IsWalked, OpensNoRoot, WalkGets, both_details, joined_at, shared_need, with_root_for}
-use Rattle.hc_tree.proofs.Opening.{cond-other, kept-after, proto-stays, same-or, some-is, some-of}
+use Rattle.hc_tree.proofs.Opening.{cond-other, proto-stays, same-or, some-is, some-of}
 use Rattle.hc_tree.proofs.Walked.{no-less-need, no-less-on}
 
 -- the root of null then
@@ -306,6 +306,20 @@ module _ (maps : MapsAreKept) (v w : View) (null then_null proto : Option ℕ) (
               field = omega (arith, same.field, fields);
               same = sym (rooted-details v w null then_null proto r it m same.place) ∙ same.same;
             })) is)) walked.writes);
+        gets = λ f d is. ⊎_elim
+            (λ (join : GetsJoin v.trail walked.end m walked.count f d). walked.gets f d (inl (record {
+              place = join.place;
+              within = join.within;
+              field = rooted-fields v w null then_null proto r it walked.end join.place ∙ join.field;
+              joined = rooted-joined v w null then_null proto r it walked.end m join.place ∙ join.joined;
+            })))
+            (λ (same : GetsSame v.trail m walked.count n v.used.fields f d). walked.gets f d (inr (record {
+              place = same.place;
+              from = same.from;
+              within = same.within;
+              field = omega (arith, same.field, fields);
+              same = rooted-details v w null then_null proto r it m same.place ∙ same.same;
+            }))) is;
         linked = λ y stable marked. walked.linked y (ap (λ (b : MapBits). b.unstable) (rooted-bits v w null then_null proto r it y) ∙ stable) marked;
         roots = roots-stay w.trail x.trail then_null on grows walked.opens (rooted-roots v w null then_null proto r it roots);
         needs = record {

@@ -1,32 +1,36 @@
 -- A walk over the tree, from a root to the map that has the keys of another one.
-use Rattle.std.proofs.Common.{◌≡◌, ◌≢◌, ℕ, zero, suc, ◌+◌, ◌<◌, ◌≤◌, Bool, true, false, List, [], ◌∷◌, ◌++◌, Option, Some, None, refl, sym, ap, ◌∙◌, subst, arith, add-one, inl, inr, true≢false}
-use Rattle.std.specs.Prelude.{IsSomeAnd}
+use Rattle.std.proofs.Common.{◌≡◌, ◌≢◌, ℕ, zero, suc, ◌+◌, ◌<◌, ◌≤◌, Bool, true, false, List, [], ◌∷◌, ◌++◌, Option, Some, None, refl, sym, ap, ◌∙◌, subst, arith, add-one, inl, inr, true≢false, cond, eqb, ltb, ltb-true}
+use Rattle.std.specs.Prelude.{IsSomeAnd, IsSome}
 use Rattle.hc_layout.specs.Capacity.{cap_of}
 use Rattle.hc_layout.specs.declared.capacity.TheConstants.{MAX_FAST}
 use Rattle.hc_layout.specs.declared.shape.Shape.{Shape}
 use Rattle.hc_layout.specs.declared.words.GateWord.{GateWord}
 use Rattle.hc_layout.specs.declared.words.MapBits.{MapBits}
 use Rattle.hc_value.specs.declared.key.Key.{Key}
+use Rattle.hc_value.specs.declared.field.Class.{Class}
+use Rattle.hc_value.specs.declared.field.Class.TheVariants.{Of, Any}
 use Rattle.hc_value.specs.declared.field.Detail.{Detail}
 use Rattle.hc_value.specs.declared.prop.Kind.TheVariants.{AccessorProp}
 use Rattle.hc_heap.specs.Writes.{Write, Trail, Bits, FieldDetail}
 use Rattle.hc_heap.specs.Readings.{gate_in, parent_in, bits_in, base_in, owner_in, detail_in}
-use Rattle.hc_heap.specs.Lawful.{Lawful, IsField, IsKey, key_from}
+use Rattle.hc_heap.specs.Lawful.{Lawful, IsClassThere, IsField, IsKey, key_from}
 use Rattle.hc_heap.specs.Kept.{Adds, FormsAreKept, GatesAreOpen, GoesOn, UnusedSaysNothing}
 use Rattle.hc_heap.specs.Frames.{adds-none, adds-on, adds-wider, goes-on-of, goes-still, same-after}
 use Rattle.hc_heap.specs.States.{View, IsHeap}
-use Rattle.hc_descs.specs.Entries.{key_at, field_at, LacksName}
+use Rattle.hc_descs.specs.Entries.{entries_in, key_at, field_at, LacksName}
 use Rattle.hc_links.specs.Chains.{child_of, links_in, newest_of}
 use Rattle.hc_links.specs.Laws.{LinksAreKept}
 use Rattle.hc_tree.specs.Tree.{IsTree, IsChildFor, IsProperKey, gate_with, tagged_field}
 use Rattle.hc_tree.specs.Kept.{MapsAreKept, MapsStay}
 use Rattle.hc_tree.specs.declared.need.Need.{Need}
+use Rattle.hc_tree.specs.declared.retarget.Wanted.{Wanted}
+use Rattle.hc_tree.specs.declared.retarget.Wanted.TheVariants.{Same, With, Joined}
 use Rattle.hc_tree.specs.Details.{ChildGets, NoMap, Reshapes, detail_of, detail_at}
 use Rattle.hc_tree.specs.Frames.{reshapes-later}
-use Rattle.hc_tree.specs.Needs.{HasSpace, IsNoLess, arrays_upto, walk_need, with_need}
+use Rattle.hc_tree.specs.Needs.{HasSpace, IsNoLess, arrays_upto, build_need, walk_need, with_need}
 use Rattle.hc_tree.specs.Growth.{EndsWith, MakesMap, MayGrow, live_of, live_child, child_need}
-use Rattle.hc_tree.specs.Walking.{AreJoined, AreLinked, GetsJoin, GetsSame, IsBuilt, IsLiveEnd, IsWalked, OpensNoRoot, WalkGets}
-use Rattle.hc_tree.proofs.Joins.{bits-same, gates-same, live-same, lives-same}
+use Rattle.hc_tree.specs.Walking.{AreJoined, AreLinked, GetsJoin, GetsSame, GetsWanted, IsBuilt, IsLiveEnd, IsOwnedFrom, IsWalked, MayBeWanted, OpensNoRoot, WalkGets, both_details, joined_at, wanted_at}
+use Rattle.hc_tree.proofs.Joins.{bits-same, gates-same, lives-same}
 use Rattle.hc_tree.proofs.Made.{and-then, field-used, some-with}
 use Rattle.hc_tree.proofs.Opening.{cond-other, some-is, some-of, same-or, opens-one, opens-both, child-no-root, proto-stays, live-bits}
 
@@ -87,11 +91,11 @@ module _ (gates : GatesAreOpen) (forms : FormsAreKept) (v : View) (at m k : ℕ)
       ((tree.maps m next.gate next.is_open).distinct j k lt next.within it.0 key it.1 next.is_key)
 
 -- an accessor's field admits everything
-pub next-accessor : (v : View) (m k n : ℕ) (key : Key) (d : Detail) → IsTree v.trail → gate_in v.trail m ≡ Some (gate_with n false) → k < n → key_at v.trail m k ≡ Some key → detail_at v.trail m k ≡ Some d → key.kind ≡ AccessorProp → d ≡ tagged_field
-next-accessor v m k n key d tree gate lt is at kind = by (field_at v.trail m k) refl at
+pub next-accessor : (v : View) (m k : ℕ) (g : GateWord) (key : Key) (d : Detail) → IsTree v.trail → gate_in v.trail m ≡ Some g → k < g.entries → key_at v.trail m k ≡ Some key → detail_at v.trail m k ≡ Some d → key.kind ≡ AccessorProp → d ≡ tagged_field
+next-accessor v m k g key d tree gate lt is at kind = by (field_at v.trail m k) refl at
   where
     by : (o : Option ℕ) → field_at v.trail m k ≡ o → detail_of v.trail o ≡ Some d → d ≡ tagged_field
-    by (Some f) here admits = some-same (detail_in v.trail f) admits ((tree.maps m (gate_with n false) gate).tagged k f key lt is kind here)
+    by (Some f) here admits = some-same (detail_in v.trail f) admits ((tree.maps m g gate).tagged k f key lt is kind here)
       where
         some-same : (o : Option Detail) → o ≡ Some d → o ≡ Some tagged_field → d ≡ tagged_field
         some-same o a b = cc
@@ -116,6 +120,7 @@ pub record IsMadeUnder (v w : View) (at k c : ℕ) (key : Key) (d : Detail) : Ty
   pub live : live_child w.trail at key ≡ Some c
   pub child : IsSomeAnd (gate_in w.trail at) (λ g. IsChildFor w.trail at g c key)
   pub last : EndsWith w.trail c k key d
+  pub detail : detail_in w.trail v.used.fields ≡ Some d
   pub bare : links_in w.trail c ≡ []
   pub used : w.used ≡ with_need (child_need None k) v.used
   pub gets : Adds (Reshapes v.used NoMap (ChildGets v.trail None k d v.used.fields)) v.trail w.trail
@@ -124,7 +129,7 @@ pub record IsMadeUnder (v w : View) (at k c : ℕ) (key : Key) (d : Detail) : Ty
   pub tree : IsTree w.trail
   pub heap : IsHeap w
 
-detail-by : (used : Shape) (p : Option ℕ) (f : ℕ) → f < used.fields → (t : Trail) (w : Write) → MakesMap used p t w → detail_in (w ∷ t) f ≡ detail_in t f
+pub detail-by : (used : Shape) (p : Option ℕ) (f : ℕ) → f < used.fields → (t : Trail) (w : Write) → MakesMap used p t w → detail_in (w ∷ t) f ≡ detail_in t f
 detail-by used p f lt t (FieldDetail x d) e = cond-other x f (Some d) (detail_in t f) (λ is. omega (arith, lt, e, is))
 detail-by used p f lt t _ e = refl
 
@@ -162,7 +167,7 @@ end-detail t c k d h = by (field_at t c k) h
     by None h = absurd h
 
 module _ (maps : MapsAreKept) (unused : UnusedSaysNothing) (v w : View) (at m k n c : ℕ) (key : Key) (d : Detail) (heap : IsHeap v) (it : IsMadeUnder v w at k c key d)
-    (is_open : gate_in v.trail at ≡ Some (gate_with k false)) (at_map : gate_in v.trail m ≡ Some (gate_with n false)) (lt : k < n) (is_key : key_at v.trail m k ≡ Some key) (is_detail : detail_at v.trail m k ≡ Some d) where
+    (is_open : gate_in v.trail at ≡ Some (gate_with k false)) (at_map : gate_in v.trail m ≡ Some (gate_with n false)) (lt : k < n) (is_key : key_at v.trail m k ≡ Some key) where
   after : MapsStay v.trail w.trail
   after = maps v.shape v.trail w.trail heap.lawful (goes-on-of v.shape it.writes (subst (λ (s : Shape). Lawful s w.trail) it.shape it.heap.lawful))
 
@@ -191,7 +196,16 @@ module _ (maps : MapsAreKept) (unused : UnusedSaysNothing) (v w : View) (at m k 
   kept-step : (f : ℕ) → f < v.used.fields → detail_in w.trail f ≡ detail_in v.trail f
   kept-step f below = same-after (λ (t : Trail). detail_in t f) (detail-by v.used (Some at) f below) it.writes
 
-  pub built-step : ((j : ℕ) → j < k → key_at v.trail at j ≡ key_at v.trail m j) → IsBuilt v w at m c k n (k + 1)
+  owned-step : IsOwnedFrom w.trail c k v.used.maps
+  owned-step = and-then (λ (f : ℕ). owner_in w.trail f ≡ Some c) (λ (f : ℕ). IsSomeAnd (owner_in w.trail f) (λ a. v.used.maps ≤ a)) (field_at w.trail c k) its-child.field (λ f owns. owned-by (owner_in w.trail f) owns)
+    where
+      least : v.used.maps ≤ c
+      least = let number = it.number in omega (arith, number)
+
+      owned-by : (o : Option ℕ) → o ≡ Some c → IsSomeAnd o (λ a. v.used.maps ≤ a)
+      owned-by o is = subst (λ (x : Option ℕ). IsSomeAnd x (λ a. v.used.maps ≤ a)) (sym is) least
+
+  pub built-step : ((j : ℕ) → j < k → key_at v.trail at j ≡ key_at v.trail m j) → IsBuilt (λ (j : ℕ). Some d) v w at m c k n (k + 1)
   built-step keys =
       let next = arrays-next k in
       let um : w.used.maps ≡ v.used.maps + 1 = ap (λ (s : Shape). s.maps) it.used in
@@ -200,8 +214,8 @@ module _ (maps : MapsAreKept) (unused : UnusedSaysNothing) (v w : View) (at m k 
       let ul : w.used.links ≡ v.used.links + 1 = ap (λ (s : Shape). s.links) it.used in
       let us : w.used.slots ≡ v.used.slots + 0 = ap (λ (s : Shape). s.slots) it.used in
       record {
-        writes = adds-wider (reshapes-later v.used v.used (no-less-none v.used) NoMap (ChildGets v.trail None k d v.used.fields) (GetsSame v.trail m k n v.used.fields)
-            (λ f e is. record { place = k; from = omega arith; within = lt; field = ap (λ (x : ℕ). x + k) is.0; same = is_detail ∙ ap (λ (x : Detail). Some x) (sym is.1) })) it.gets;
+        writes = adds-wider (reshapes-later v.used v.used (no-less-none v.used) NoMap (ChildGets v.trail None k d v.used.fields) (GetsWanted (λ (j : ℕ). Some d) k (k + 1) v.used.fields)
+            (λ f e is. record { place = k; from = omega arith; within = omega arith; field = ap (λ (x : ℕ). x + k) is.0; same = ap (λ (x : Detail). Some x) (sym is.1) })) it.gets;
         opens = opens-step;
         linked = linked-step;
         maps = omega (arith, um);
@@ -218,8 +232,13 @@ module _ (maps : MapsAreKept) (unused : UnusedSaysNothing) (v w : View) (at m k 
         keys = keys-step keys;
         shared = λ j below. its-child.entries.fields j below ∙ (after.entry at j (gate_with k false) is_open below).field;
         made = λ j from below. let same : j ≡ k = omega (arith, from, below) in
-            subst (λ (x : ℕ). detail_at w.trail c x ≡ detail_at v.trail m x) (sym same) (end-detail w.trail c k d it.last.field ∙ sym is_detail);
+            subst (λ (x : ℕ). detail_at w.trail c x ≡ Some d) (sym same) (end-detail w.trail c k d it.last.field);
+        owned = λ j from below. let same : j ≡ k = omega (arith, from, below) in subst (λ (x : ℕ). IsOwnedFrom w.trail c x v.used.maps) (sym same) owned-step;
         kept = kept-step;
+        gets = λ f x is.
+            let place : is.place ≡ k = omega (arith, is.from, is.within) in
+            let here : f ≡ v.used.fields = omega (arith, is.field, place) in
+            ap (detail_in w.trail) here ∙ (it.detail ∙ is.same);
         ends = λ other below is. no-live w.trail c other it.bare;
         tree = it.tree;
         heap = it.heap;
@@ -227,9 +246,19 @@ module _ (maps : MapsAreKept) (unused : UnusedSaysNothing) (v w : View) (at m k 
 
 -- Many steps
 
-pub built-none : (v : View) (base m count n : ℕ) → IsHeap v → IsTree v.trail → gate_in v.trail base ≡ Some (gate_with count false) → (bits_in v.trail base).deprecated ≡ false
-    → ((j : ℕ) → j < count → key_at v.trail base j ≡ key_at v.trail m j) → ((key : Key) → count < n → key_at v.trail m count ≡ Some key → live_child v.trail base key ≡ None) → IsBuilt v v base m base count n count
-built-none v base m count n heap tree gate live keys ends = record {
+owned-more : (t : Trail) (c k first least : ℕ) → least ≤ first → IsOwnedFrom t c k first → IsOwnedFrom t c k least
+owned-more t c k first least le h = and-then (λ (f : ℕ). IsSomeAnd (owner_in t f) (λ a. first ≤ a)) (λ (f : ℕ). IsSomeAnd (owner_in t f) (λ a. least ≤ a)) (field_at t c k) h
+    (λ f owns. and-then (λ (a : ℕ). first ≤ a) (λ (a : ℕ). least ≤ a) (owner_in t f) owns (λ a above. omega (arith, above, le)))
+
+-- a field's owner stays, and so it is owned in a map that shares it
+owned-later : (s t : Trail) (at c k first : ℕ) → ((f o : ℕ) → owner_in s f ≡ Some o → owner_in t f ≡ Some o) → field_at t c k ≡ field_at s at k → IsOwnedFrom s at k first → IsOwnedFrom t c k first
+owned-later s t at c k first stays shared h = subst (λ (o : Option ℕ). IsSomeAnd o (λ f. IsSomeAnd (owner_in t f) (λ a. first ≤ a))) (sym shared)
+    (and-then (λ (f : ℕ). IsSomeAnd (owner_in s f) (λ a. first ≤ a)) (λ (f : ℕ). IsSomeAnd (owner_in t f) (λ a. first ≤ a)) (field_at s at k) h
+    (λ f owns. let o = some-with (λ (a : ℕ). first ≤ a) (owner_in s f) owns in subst (λ (x : Option ℕ). IsSomeAnd x (λ a. first ≤ a)) (sym (stays f o.0 o.1.0)) o.1.1))
+
+pub built-none : (wanted : ℕ → Option Detail) (v : View) (base m count n : ℕ) → IsHeap v → IsTree v.trail → gate_in v.trail base ≡ Some (gate_with count false) → (bits_in v.trail base).deprecated ≡ false
+    → ((j : ℕ) → j < count → key_at v.trail base j ≡ key_at v.trail m j) → ((key : Key) → count < n → key_at v.trail m count ≡ Some key → live_child v.trail base key ≡ None) → IsBuilt wanted v v base m base count n count
+built-none wanted v base m count n heap tree gate live keys ends = record {
   writes = adds-none v.trail;
   opens = λ k g none is shared parent. let n : None ≡ Some g = sym none ∙ is in let f : ⊥ = cc in f;
   linked = λ x stable marked. absurd (true≢false (sym marked ∙ stable));
@@ -247,7 +276,9 @@ built-none v base m count n heap tree gate live keys ends = record {
   keys = keys;
   shared = λ k lt. refl;
   made = λ k from lt. absurd (omega (arith, from, lt));
+  owned = λ k from lt. absurd (omega (arith, from, lt));
   kept = λ f lt. refl;
+  gets = λ f d is. absurd (omega (arith, is.from, is.within));
   ends = ends;
   tree = tree;
   heap = heap;
@@ -265,23 +296,61 @@ linked-both law s a b c goes x y m stable marked = by (bits_in b m).unstable ref
     by true e = λ none. x m stable e (no-more ((law s b c m goes).more) (links_in b m) (sym ((law s b c m goes).is) ∙ none))
     by false e = y m e marked
 
-module _ (maps : MapsAreKept) (a b : View) (base m at count n k : ℕ) (heap : IsHeap a) (it : IsBuilt a b base m at count n k) (from : count ≤ k) where
+module _ (wanted : ℕ → Option Detail) (maps : MapsAreKept) (a b : View) (base m at count n k : ℕ) (heap : IsHeap a) (it : IsBuilt wanted a b base m at count n k) (from : count ≤ k) where
   lawful-b : Lawful a.shape b.trail
   lawful-b = subst (λ (s : Shape). Lawful s b.trail) it.shape it.heap.lawful
 
   pub built-later : MapsStay a.trail b.trail
   built-later = maps a.shape a.trail b.trail heap.lawful (goes-on-of a.shape it.writes lawful-b)
 
+  -- what can be wanted can be later
+  pub may-later : (w : Wanted) → gate_in a.trail m ≡ Some (gate_with n false) → k < n → MayBeWanted a.shape a.trail m count w → MayBeWanted b.shape b.trail m count w
+  may-later Same is lt h = tt
+  may-later (With d) is lt h = record { form = h.form; there = there-by d.class h.there; narrow = h.narrow }
+    where
+      there-by : (c : Class) → IsClassThere a.shape a.trail c → IsClassThere b.shape b.trail c
+      there-by (Of x) y = (subst (λ (s : Shape). x < s.maps) (sym it.shape) y.0, let g = some-of (gate_in a.trail x) y.1 in subst (λ (o : Option GateWord). IsSome o) (sym (built-later.written.gate x g.0 g.1)) refl)
+      there-by Any y = tt
+  may-later (Joined end upto) is lt h =
+      let g = some-with (λ (x : GateWord). upto ≤ x.entries) (gate_in a.trail end) h.is_open in
+      let few : upto ≤ n = subst (λ (o : Option GateWord). upto ≤ entries_in o) is h.within in
+      record {
+        within = subst (λ (o : Option GateWord). upto ≤ entries_in o) (sym (built-later.written.gate m (gate_with n false) is)) few;
+        is_open = subst (λ (o : Option GateWord). IsSomeAnd o (λ x. upto ≤ x.entries)) (sym (built-later.written.gate end g.0 g.1.0)) g.1.1;
+        keys = λ j below.
+            let most = g.1.1 in
+            (built-later.entry end j g.0 g.1.0 (omega (arith, below, most))).key ∙ h.keys j below ∙ sym (built-later.entry m j (gate_with n false) is (omega (arith, below, few))).key;
+      }
+
+  -- what is wanted next is what was wanted at first
+  pub built-wants : UnusedSaysNothing → (w : Wanted) → gate_in a.trail m ≡ Some (gate_with n false) → k < n → MayBeWanted a.shape a.trail m count w → wanted_at b.trail m count w k ≡ wanted_at a.trail m count w k
+  built-wants unused Same is lt h = details-stay maps unused a b heap built-later it.kept m (gate_with n false) is k lt
+  built-wants unused (With d) is lt h = ap (λ (o : Option Detail). cond (eqb k count) (both_details o (Some d)) o) (details-stay maps unused a b heap built-later it.kept m (gate_with n false) is k lt)
+  built-wants unused (Joined end upto) is lt h = by (ltb k upto) refl
+    where
+      own : detail_at b.trail m k ≡ detail_at a.trail m k
+      own = details-stay maps unused a b heap built-later it.kept m (gate_with n false) is k lt
+
+      by : (c : Bool) → ltb k upto ≡ c → cond c (joined_at b.trail end m k) (detail_at b.trail m k) ≡ cond c (joined_at a.trail end m k) (detail_at a.trail m k)
+      by true e =
+          let g = some-with (λ (x : GateWord). upto ≤ x.entries) (gate_in a.trail end) h.is_open in
+          let most = g.1.1 in
+          let below = ltb-true k upto e in
+          ap (λ (o : Option Detail). both_details o (detail_at b.trail m k)) (details-stay maps unused a b heap built-later it.kept end g.0 g.1.0 k (omega (arith, below, most)))
+          ∙ ap (λ (o : Option Detail). both_details (detail_at a.trail end k) o) own
+      by false e = own
+
   -- there is room for the next step
-  pub built-space : k < n → HasSpace a (walk_need n) → HasSpace b (child_need None k)
+  pub built-space : k < n → HasSpace a (build_need count n) → HasSpace b (child_need None k)
   built-space lt space =
       let next = arrays-next k in
+      let rise : arrays_upto count ≤ arrays_upto k = arrays-rise count k from in
       let most : arrays_upto (k + 1) ≤ arrays_upto n = arrays-rise (k + 1) n (omega (arith, lt)) in
       subst (λ (s : Shape). HasSpace (record { shape = s; trail = b.trail; used = b.used }) (child_need None k)) (sym it.shape) (record {
-        maps = omega (arith, it.maps, space.maps, lt);
-        entries = omega (arith, it.entries, space.entries, next, most);
-        fields = omega (arith, it.fields, space.fields, lt);
-        links = omega (arith, it.links, space.links, lt);
+        maps = omega (arith, it.maps, space.maps, lt, from);
+        entries = omega (arith, it.entries, space.entries, next, most, rise);
+        fields = omega (arith, it.fields, space.fields, lt, from);
+        links = omega (arith, it.links, space.links, lt, from);
         slots = omega (arith, it.slots, space.slots);
       })
 
@@ -295,23 +364,30 @@ module _ (maps : MapsAreKept) (a b : View) (base m at count n k : ℕ) (heap : I
         slots = omega (arith, it.slots);
       }
 
+  -- what was wanted at first is wanted later
+  pub later-gets : (f : ℕ) (e : Detail) → GetsWanted wanted count k a.used.fields f e → GetsWanted wanted count (k + 1) a.used.fields f e
+  later-gets f e is = record { place = is.place; from = is.from; within = omega (arith, is.within); field = is.field; same = is.same }
+
   -- a step more
-  pub built-more : GatesAreOpen → LinksAreKept → UnusedSaysNothing → (c : View) (child : ℕ) → gate_in a.trail m ≡ Some (gate_with n false) → k < n → IsBuilt b c at m child k n (k + 1) → IsBuilt a c base m child count n (k + 1)
-  built-more gates links unused c child is_open lt step =
+  pub built-more : GatesAreOpen → LinksAreKept → UnusedSaysNothing → (c : View) (child : ℕ) (d : Detail) → wanted k ≡ Some d → k < n → IsBuilt (λ (j : ℕ). Some d) b c at m child k n (k + 1) → IsBuilt wanted a c base m child count n (k + 1)
+  built-more gates links unused c child d here lt step =
       let next = arrays-next k in
       let lawful_c : Lawful b.shape c.trail = subst (λ (s : Shape). Lawful s c.trail) step.shape step.heap.lawful in
       let goes : GoesOn b.shape b.trail c.trail = goes-on-of b.shape step.writes lawful_c in
       let on : MapsStay b.trail c.trail = maps b.shape b.trail c.trail it.heap.lawful goes in
-      let stay = details-stay maps unused a b heap built-later it.kept m (gate_with n false) is_open in
       let fields = it.fields in
       record {
-        writes = adds-on it.writes (adds-wider (reshapes-later a.used b.used no-less-built NoMap (GetsSame b.trail m k n b.used.fields) (GetsSame a.trail m count n a.used.fields)
-            (λ f d is. record {
+        writes = adds-on
+            (adds-wider (reshapes-later a.used a.used (no-less-none a.used) NoMap (GetsWanted wanted count k a.used.fields) (GetsWanted wanted count (k + 1) a.used.fields) later-gets) it.writes)
+            (adds-wider (reshapes-later a.used b.used no-less-built NoMap (GetsWanted (λ (j : ℕ). Some d) k (k + 1) b.used.fields) (GetsWanted wanted count (k + 1) a.used.fields)
+            (λ f e is.
+            let same : is.place ≡ k = omega (arith, is.from, is.within) in
+            record {
               place = is.place;
               from = omega (arith, is.from, from);
               within = is.within;
               field = omega (arith, is.field, fields);
-              same = sym (stay is.place is.within) ∙ is.same;
+              same = ap wanted same ∙ here ∙ is.same;
             })) step.writes);
         opens = opens-both a.trail b.trail c.trail on (λ x g is. (gates b.shape b.trail x g it.heap.lawful is).parent) it.opens step.opens;
         linked = linked-both links b.shape a.trail b.trail c.trail goes it.linked step.linked;
@@ -328,14 +404,30 @@ module _ (maps : MapsAreKept) (a b : View) (base m at count n k : ℕ) (heap : I
         prototype = step.prototype ∙ it.prototype;
         keys = step.keys;
         shared = λ j below. step.shared j (omega (arith, below, from)) ∙ it.shared j below;
-        made = λ j above below. same-or j k (detail_at c.trail child j ≡ detail_at a.trail m j)
-            (λ same. subst (λ (x : ℕ). detail_at c.trail child x ≡ detail_at a.trail m x) (sym same) (step.made k (omega arith) (omega arith) ∙ stay k lt))
+        made = λ j above below. same-or j k (detail_at c.trail child j ≡ wanted j)
+            (λ same. subst (λ (x : ℕ). detail_at c.trail child x ≡ wanted x) (sym same) (step.made k (omega arith) (omega arith) ∙ sym here))
             (λ other.
             let before : j < k = omega (arith, below, other) in
             ap (detail_of c.trail) (step.shared j before)
             ∙ of-same b.trail c.trail (field_at b.trail at j) (and-then (λ (f : ℕ). f < b.used.fields) (λ (f : ℕ). detail_in c.trail f ≡ detail_in b.trail f) (field_at b.trail at j) (fields-used maps unused b it.heap at (gate_with k false) it.gate j before) step.kept)
             ∙ it.made j above before);
+        owned = λ j above below. same-or j k (IsOwnedFrom c.trail child j a.used.maps)
+            (λ same. let less = no-less-built.maps in subst (λ (x : ℕ). IsOwnedFrom c.trail child x a.used.maps) (sym same) (owned-more c.trail child k b.used.maps a.used.maps less (step.owned k (omega arith) (omega arith))))
+            (λ other.
+            let before : j < k = omega (arith, below, other) in
+            owned-later b.trail c.trail at child j a.used.maps (λ f o is. on.written.owner f o is) (step.shared j before) (it.owned j above before));
         kept = λ f below. step.kept f (omega (arith, below, fields, from)) ∙ it.kept f below;
+        gets = λ f x is. same-or is.place k (detail_in c.trail f ≡ Some x)
+            (λ same. step.gets f x (record {
+              place = is.place;
+              from = omega (arith, same);
+              within = omega (arith, same);
+              field = omega (arith, is.field, fields, same);
+              same = sym here ∙ (ap wanted (sym same) ∙ is.same);
+            }))
+            (λ other.
+            let before : is.place < k = omega (arith, is.within, other) in
+            step.kept f (omega (arith, is.field, fields, before)) ∙ it.gets f x (record { place = is.place; from = is.from; within = before; field = is.field; same = is.same }));
         ends = step.ends;
         tree = step.tree;
         heap = step.heap;
@@ -343,7 +435,7 @@ module _ (maps : MapsAreKept) (a b : View) (base m at count n k : ℕ) (heap : I
 
 -- The whole walk
 
-module _ (maps : MapsAreKept) (unused : UnusedSaysNothing) (v w : View) (root end m count n : ℕ) (heap : IsHeap v) (ended : IsLiveEnd v.trail root m n end count) (it : AreJoined v w end m count n count) (at_map : gate_in v.trail m ≡ Some (gate_with n false)) where
+module _ (maps : MapsAreKept) (unused : UnusedSaysNothing) (v w : View) (root end m count n : ℕ) (heap : IsHeap v) (ended : IsLiveEnd v.trail root m n end count) (it : AreJoined v w end m count count n count) (at_map : gate_in v.trail m ≡ Some (gate_with n false)) where
   lawful-w : Lawful v.shape w.trail
   lawful-w = subst (λ (s : Shape). Lawful s w.trail) (ap (λ (x : View). x.shape) it.view) it.heap.lawful
 
@@ -365,12 +457,28 @@ module _ (maps : MapsAreKept) (unused : UnusedSaysNothing) (v w : View) (root en
       (joined-later.entry end j (gate_with count false) ended.path.gate lt).key ∙ ended.path.keys j lt ∙ sym (joined-later.entry m j (gate_with n false) at_map (omega (arith, lt, le))).key
 
   pub joined-ends : (key : Key) → count < n → key_at w.trail m count ≡ Some key → live_child w.trail end key ≡ None
-  joined-ends key lt is = live-same v.trail w.trail it.only end key ∙ ended.ends key lt (sym (joined-later.entry m count (gate_with n false) at_map lt).key ∙ is)
+  joined-ends key lt is = it.lives end key ∙ ended.ends key lt (sym (joined-later.entry m count (gate_with n false) at_map lt).key ∙ is)
 
-  pub joined-space : HasSpace v (walk_need n) → HasSpace w (walk_need n)
-  joined-space space = subst (λ (x : View). HasSpace x (walk_need n)) (sym it.view) (record { maps = space.maps; entries = space.entries; fields = space.fields; links = space.links; slots = space.slots })
+  pub joined-space : HasSpace v (walk_need n) → HasSpace w (build_need count n)
+  joined-space space = subst (λ (x : View). HasSpace x (build_need count n)) (sym it.view) (record {
+    maps = omega (arith, space.maps);
+    entries = omega (arith, space.entries);
+    fields = omega (arith, space.fields);
+    links = omega (arith, space.links);
+    slots = omega (arith, space.slots);
+  })
 
-  pub walked : (x : View) (c : ℕ) → IsBuilt w x end m c count n n → IsWalked v x root m c n
+  walked-gets : (x : View) (c : ℕ) → IsBuilt (wanted_at w.trail m count Same) w x end m c count n n → (f : ℕ) (d : Detail) → WalkGets v.trail end m count n v.used.fields f d → detail_in x.trail f ≡ Some d
+  walked-gets x c built f d (inl is) =
+      let here : field_at w.trail end is.place ≡ Some f = (joined-later.entry end is.place (gate_with count false) ended.path.gate is.within).field ∙ is.field in
+      let now : detail_in w.trail f ≡ Some d = sym (ap (detail_of w.trail) here) ∙ (it.joined is.place is.within ∙ is.joined) in
+      let below : f < w.used.fields = subst (λ (o : Option ℕ). IsSomeAnd o (λ y. y < w.used.fields)) here (fields-used maps unused w it.heap end (gate_with count false) joined-gate is.place is.within) in
+      built.kept f below ∙ now
+  walked-gets x c built f d (inr is) =
+      let used : w.used.fields ≡ v.used.fields = ap (λ (y : View). y.used.fields) it.view in
+      built.gets f d (record { place = is.place; from = is.from; within = is.within; field = omega (arith, is.field, used); same = it.others is.place is.from is.within ∙ is.same })
+
+  pub walked : (x : View) (c : ℕ) → IsBuilt (wanted_at w.trail m count Same) w x end m c count n n → IsWalked v x root m c n
   walked x c built =
       let used : w.used ≡ v.used = ap (λ (y : View). y.used) it.view in
       let first = arrays_upto count in
@@ -390,6 +498,7 @@ module _ (maps : MapsAreKept) (unused : UnusedSaysNothing) (v w : View) (root en
             (adds-wider (reshapes-later v.used v.used (no-less-none v.used) NoMap (GetsJoin v.trail end m count) (WalkGets v.trail end m count n v.used.fields) (λ f d is. inl is)) it.writes)
             (adds-wider (reshapes-later v.used v.used (no-less-none v.used) NoMap (GetsSame w.trail m count n v.used.fields) (WalkGets v.trail end m count n v.used.fields)
             (λ f d is. inr (record { place = is.place; from = is.from; within = is.within; field = is.field; same = sym (it.others is.place is.from is.within) ∙ is.same }))) second);
+        gets = walked-gets x c built;
         opens = λ y g none gate shared parent. built.opens y g (gates-same v.trail w.trail it.only y ∙ none) gate shared parent;
         linked = λ y stable marked. built.linked y (ap (λ (b : MapBits). b.unstable) (bits-same v.trail w.trail it.only y) ∙ stable) marked;
         needs = record {

@@ -18,6 +18,7 @@ use Rattle.hc_links.specs.Chains.{links_in}
 use Rattle.hc_tree.specs.Tree.{gate_with, tagged_field, IsNarrow, HaveDistinctNames, HaveProperKeys, HaveTaggedAccessors, IsProperKey}
 use Rattle.hc_tree.specs.Needs.{array_of}
 use Rattle.hc_tree.specs.Growth.{EndsWith}
+use Rattle.hc_tree.specs.Walking.{GetsSame}
 
 -- New fields
 
@@ -93,6 +94,12 @@ pub record IsPrivateCopy (fresh : Bool) (more : More) (p : Option ℕ) (t : Trai
   pub prototype : prototype_in t c ≡ Some p
   pub entries : HasCopied fresh t c m n first
   pub last : HasMore more t c n
+
+-- what new fields get, from a first one on, in a private copy of a map with n entries: each of new fields what the map's own
+-- admits, and the field of an entry more its detail
+abbrev pub CopyGets : Bool → More → Trail → ℕ → ℕ → ℕ → ℕ → Detail → Type 0
+CopyGets fresh None t m n first f d = GetsSame t m 0 (copied_fields fresh None n) first f d
+CopyGets fresh (Some e) t m n first f d = (f ≡ first) × (d ≡ e.1)
 
 -- How a private copy is made
 

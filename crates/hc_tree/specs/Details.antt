@@ -51,6 +51,11 @@ abbrev pub ChildGets : Trail → Option ℕ → ℕ → Detail → ℕ → ℕ �
 ChildGets t (Some c) n d first f e = (field_at t c n ≡ Some f) × (e ≡ joined_with (detail_in t f) d)
 ChildGets t None n d first f e = (f ≡ first) × (e ≡ d)
 
+-- exactly these fields got these details, and all others have what they had
+pub record DetailsAre (Gets : ℕ → Detail → Type 0) (old new : Trail) : Type 0 where
+  pub gets : (f : ℕ) (d : Detail) → Gets f d → detail_in new f ≡ Some d
+  pub rest : (f : ℕ) → ((d : Detail) → Gets f d → ⊥) → detail_in new f ≡ detail_in old f
+
 -- writes of details alone
 abbrev pub WritesDetails : Trail → Write → Type 0
 WritesDetails t (FieldDetail f d) = Unit {0}

@@ -1,11 +1,11 @@
 -- Maps that are deprecated, each with all maps under it.
-use Rattle.std.specs.Prelude.{◌≡◌, ℕ, suc, ◌+◌, ◌<◌, true, false, IsTrue, Some, None}
+use Rattle.std.specs.Prelude.{◌≡◌, ℕ, suc, ◌+◌, ◌<◌, ◌≤◌, true, false, IsTrue, Some, None}
 use Rattle.hc_layout.specs.declared.shape.Shape.{Shape}
 use Rattle.hc_layout.specs.declared.words.GateWord.{GateWord}
 use Rattle.hc_layout.specs.declared.words.MapBits.{MapBits}
 use Rattle.hc_value.specs.declared.key.Key.{Key}
 use Rattle.hc_heap.specs.Writes.{Write, Trail, Bits}
-use Rattle.hc_heap.specs.Readings.{gate_in, parent_in, bits_in, owner_in}
+use Rattle.hc_heap.specs.Readings.{gate_in, parent_in, prototype_in, bits_in, owner_in}
 use Rattle.hc_heap.specs.Lawful.{Lawful}
 use Rattle.hc_heap.specs.Kept.{Adds}
 use Rattle.hc_heap.specs.States.{View, IsHeap}
@@ -67,3 +67,18 @@ OneIsLive = (t : Trail) (m c : ℕ) (g : GateWord) (key : Key) → IsTree t → 
 -- after a live child was deprecated there is none for its key
 abbrev pub OwnerIsFreed : Type 0
 OwnerIsFreed = (old new : View) (m c : ℕ) (g : GateWord) (key : Key) → IsTree old.trail → gate_in old.trail m ≡ Some g → IsChildFor old.trail m g c key → (bits_in old.trail c).deprecated ≡ false → IsDeprecated old new c → live_child new.trail m key ≡ None
+
+-- what stands above a live map is open and live, no younger than it, and has its prototype
+pub record IsHigh (t : Trail) (m a : ℕ) : Type 0 where
+  pub gate : GateWord
+  pub is_open : gate_in t a ≡ Some gate
+  pub live : (bits_in t a).deprecated ≡ false
+  pub older : a ≤ m
+  pub prototype : prototype_in t a ≡ prototype_in t m
+
+abbrev pub LiveStandHigh : Type 0
+LiveStandHigh = (t : Trail) (m a depth : ℕ) (g : GateWord) → IsTree t → gate_in t m ≡ Some g → (bits_in t m).deprecated ≡ false → ancestor t depth m ≡ Some a → IsHigh t m a
+
+-- the map above one that was deprecated has the bits that it had
+abbrev pub ParentIsSpared : Type 0
+ParentIsSpared = (old new : View) (m c : ℕ) (g : GateWord) (key : Key) → IsTree old.trail → gate_in old.trail m ≡ Some g → IsChildFor old.trail m g c key → (bits_in old.trail m).deprecated ≡ false → IsDeprecated old new c → bits_in new.trail m ≡ bits_in old.trail m

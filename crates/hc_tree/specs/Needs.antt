@@ -1,5 +1,5 @@
 -- How many items of each region a call needs, and when it finds no room.
-use Rattle.std.specs.Prelude.{◌≡◌, ℕ, zero, suc, ◌+◌, ◌≤◌, ◌^◌, ◌==◌, if◌then◌else◌, Result, Ok, Err}
+use Rattle.std.specs.Prelude.{◌≡◌, ℕ, zero, suc, ◌+◌, ◌-◌, ◌≤◌, ◌^◌, ◌==◌, if◌then◌else◌, Result, Ok, Err}
 use Rattle.hc_layout.specs.Capacity.{cap_of}
 use Rattle.hc_layout.specs.declared.shape.Shape.{Shape}
 use Rattle.hc_layout.specs.declared.shape.Region.TheVariants.{Maps, Entries, Fields, Links, Slots}
@@ -73,6 +73,10 @@ arrays_upto (suc n) = arrays_upto n + cap_of (suc n)
 -- a walk that makes a map for each of n properties
 abbrev pub walk_need : ℕ → Need
 walk_need n = record { maps = n; entries = arrays_upto n; fields = n; links = n; slots = 0 }
+
+-- new maps for the properties of a map from one on: one for each
+abbrev pub build_need : ℕ → ℕ → Need
+build_need i n = record { maps = n - i; entries = arrays_upto n - arrays_upto i; fields = n - i; links = n - i; slots = 0 }
 
 -- no item was taken back
 pub record IsNoLess (old new : Shape) : Type 0 where

@@ -1,20 +1,25 @@
 -- The shared map that has a prototype and the keys of another map: the maps that are made for it, and the one that is come to.
-use Rattle.std.specs.Prelude.{◌≡◌, ◌≢◌, ◌⊎◌, ℕ, zero, suc, ◌+◌, ◌<◌, ◌≤◌, false, IsTrue, Option, Some, None, IfSome, []}
-use Rattle.hc_value.specs.Field.{joined_detail}
+use Rattle.std.specs.Prelude.{◌≡◌, ◌≢◌, ◌⊎◌, ℕ, zero, suc, ◌+◌, ◌<◌, ◌≤◌, ◌==◌, nat_lt, if◌then◌else◌, false, IsTrue, Option, Some, None, IfSome, IsSomeAnd, []}
+use Rattle.hc_layout.specs.declared.shape.Shape.{Shape}
+use Rattle.hc_value.specs.Field.{IsClassInRange, joined_detail}
+use Rattle.hc_value.specs.declared.prop.Kind.TheVariants.{AccessorProp}
 use Rattle.hc_value.specs.declared.field.Detail.{Detail}
 use Rattle.hc_value.specs.declared.key.Key.{Key}
 use Rattle.hc_links.specs.Chains.{links_in}
 use Rattle.hc_tree.specs.Details.{NoMap, Reshapes, WritesDetails, detail_at}
 use Rattle.hc_layout.specs.declared.words.GateWord.{GateWord}
 use Rattle.hc_heap.specs.Writes.{Write, Trail, Bits, ObjectMap, Root, Store, Slot}
-use Rattle.hc_heap.specs.Readings.{gate_in, parent_in, prototype_in, bits_in, detail_in, root_in}
+use Rattle.hc_heap.specs.Readings.{gate_in, parent_in, prototype_in, bits_in, owner_in, detail_in, root_in}
 use Rattle.hc_heap.specs.Kept.{Adds}
+use Rattle.hc_heap.specs.Lawful.{IsClassThere}
 use Rattle.hc_heap.specs.States.{View, IsHeap}
-use Rattle.hc_descs.specs.Entries.{key_at, field_at}
+use Rattle.hc_descs.specs.Entries.{count_of, key_at, field_at}
 use Rattle.hc_tree.specs.declared.need.Need.{Need}
+use Rattle.hc_tree.specs.declared.retarget.Wanted.{Wanted}
+use Rattle.hc_tree.specs.declared.retarget.Wanted.TheVariants.{Same, With, Joined}
 use Rattle.hc_tree.specs.Growth.{live_child, root_of, root_need, with_named_root}
 use Rattle.hc_tree.specs.Needs.{IsWithin, arrays_upto, both, walk_need}
-use Rattle.hc_tree.specs.Tree.{IsRoot, IsTree, gate_with}
+use Rattle.hc_tree.specs.Tree.{IsNarrow, IsRoot, IsTree, gate_with, tagged_field}
 
 -- a shared map that is nobody's child is the root that its prototype names; the root of null is one
 pub record AreRoots (t : Trail) (of_null : Option ℕ) : Type 0 where
@@ -82,13 +87,48 @@ pub record GetsJoin (t : Trail) (end m count f : ℕ) (d : Detail) : Type 0 wher
   pub field : field_at t end place ≡ Some f
   pub joined : joined_at t end m place ≡ Some d
 
--- a new field gets what the other map's field admits
-pub record GetsSame (t : Trail) (m count n first f : ℕ) (d : Detail) : Type 0 where
+-- New maps, and what their fields are to admit
+
+-- what is to be admitted by the field of a new map's j-th entry, where the first new entry is this one
+abbrev pub wanted_at : Trail → ℕ → ℕ → Wanted → ℕ → Option Detail
+wanted_at t m first Same j = detail_at t m j
+wanted_at t m first (With d) j = if j == first then both_details (detail_at t m j) (Some d) else detail_at t m j
+wanted_at t m first (Joined end count) j = if nat_lt j count then joined_at t end m j else detail_at t m j
+
+-- a detail that fields can be asked to admit
+pub record IsDetail (s : Shape) (t : Trail) (d : Detail) : Type 0 where
+  pub form : IsClassInRange d.class
+  pub there : IsClassThere s t d.class
+  pub narrow : IsNarrow d
+
+-- a detail may be that of a new field for a map's k-th entry
+pub record MayAdmit (s : Shape) (t : Trail) (m k : ℕ) (d : Detail) : Type 0 where
+  pub accessor : (key : Key) → key_at t m k ≡ Some key → key.kind ≡ AccessorProp → d ≡ tagged_field
+  pub is : IsDetail s t d
+
+-- the first entries of a map are there, and have the keys of another
+pub record HasFirstKeys (t : Trail) (end m count : ℕ) : Type 0 where
+  pub within : count ≤ count_of t m
+  pub is_open : IsSomeAnd (gate_in t end) (λ g. count ≤ g.entries)
+  pub keys : (j : ℕ) → j < count → key_at t end j ≡ key_at t m j
+
+-- what is wanted for a map's entries can be admitted
+abbrev pub MayBeWanted : Shape → Trail → ℕ → ℕ → Wanted → Type 0
+MayBeWanted s t m first Same = Unit {0}
+MayBeWanted s t m first (With d) = IsDetail s t d
+MayBeWanted s t m first (Joined end count) = HasFirstKeys t end m count
+
+-- a new field gets what is wanted at its place, of the places from one on
+pub record GetsWanted (wanted : ℕ → Option Detail) (count n first f : ℕ) (d : Detail) : Type 0 where
   pub place : ℕ
   pub from : count ≤ place
   pub within : place < n
   pub field : f + count ≡ first + place
-  pub same : detail_at t m place ≡ Some d
+  pub same : wanted place ≡ Some d
+
+-- a new field gets what the other map's field admits
+abbrev pub GetsSame : Trail → ℕ → ℕ → ℕ → ℕ → ℕ → Detail → Type 0
+GetsSame t m count n first f d = GetsWanted (detail_at t m) count n first f d
 
 -- what fields get in a walk for the n keys of a map: up to the end of the live children the joins, and past it what the
 -- map's fields admit
@@ -99,20 +139,25 @@ WalkGets t end m count n first f d = GetsJoin t end m count f d ⊎ GetsSame t m
 abbrev pub AreLinked : Trail → Trail → Type 0
 AreLinked old new = (x : ℕ) → (bits_in old x).unstable ≡ false → IsTrue (bits_in new x).unstable → links_in new x ≢ []
 
--- the first fields of a map were joined with those of another, k of so many
-pub record AreJoined (old new : View) (end m count n k : ℕ) : Type 0 where
+-- of the first fields of a map, up to a place, k were joined with those of another map
+pub record AreJoined (old new : View) (end m stop count n k : ℕ) : Type 0 where
   pub view : new ≡ record old { trail = new.trail }
-  pub writes : Adds (Reshapes old.used NoMap (GetsJoin old.trail end m count)) old.trail new.trail
+  pub writes : Adds (Reshapes old.used NoMap (GetsJoin old.trail end m stop)) old.trail new.trail
   pub only : Adds WritesDetails old.trail new.trail
+  pub lives : (x : ℕ) (key : Key) → live_child new.trail x key ≡ live_child old.trail x key
   pub joined : (j : ℕ) → j < k → detail_at new.trail end j ≡ joined_at old.trail end m j
   pub rest : (j : ℕ) → k ≤ j → j < count → detail_at new.trail end j ≡ detail_at old.trail end j
   pub others : (j : ℕ) → k ≤ j → j < n → detail_at new.trail m j ≡ detail_at old.trail m j
   pub tree : IsTree new.trail
   pub heap : IsHeap new
 
--- maps were made under a map with so many entries, the last of which has i
-pub record IsBuilt (old new : View) (base m c count n i : ℕ) : Type 0 where
-  pub writes : Adds (Reshapes old.used NoMap (GetsSame old.trail m count n old.used.fields)) old.trail new.trail
+-- the field of a map's k-th entry was made for a map from this one on
+abbrev pub IsOwnedFrom : Trail → ℕ → ℕ → ℕ → Type 0
+IsOwnedFrom t c k first = IsSomeAnd (field_at t c k) (λ f. IsSomeAnd (owner_in t f) (λ a. first ≤ a))
+
+-- maps were made under a map with so many entries, the last of which has i; their fields are new, and admit what was wanted
+pub record IsBuilt (wanted : ℕ → Option Detail) (old new : View) (base m c count n i : ℕ) : Type 0 where
+  pub writes : Adds (Reshapes old.used NoMap (GetsWanted wanted count i old.used.fields)) old.trail new.trail
   pub opens : OpensNoRoot old.trail new.trail
   pub linked : AreLinked old.trail new.trail
   pub maps : new.used.maps + count ≡ old.used.maps + i
@@ -128,8 +173,10 @@ pub record IsBuilt (old new : View) (base m c count n i : ℕ) : Type 0 where
   pub prototype : prototype_in new.trail c ≡ prototype_in old.trail base
   pub keys : (k : ℕ) → k < i → key_at new.trail c k ≡ key_at new.trail m k
   pub shared : (k : ℕ) → k < count → field_at new.trail c k ≡ field_at old.trail base k
-  pub made : (k : ℕ) → count ≤ k → k < i → detail_at new.trail c k ≡ detail_at old.trail m k
+  pub made : (k : ℕ) → count ≤ k → k < i → detail_at new.trail c k ≡ wanted k
+  pub owned : (k : ℕ) → count ≤ k → k < i → IsOwnedFrom new.trail c k old.used.maps
   pub kept : (f : ℕ) → f < old.used.fields → detail_in new.trail f ≡ detail_in old.trail f
+  pub gets : (f : ℕ) (d : Detail) → GetsWanted wanted count i old.used.fields f d → detail_in new.trail f ≡ Some d
   pub ends : (key : Key) → i < n → key_at new.trail m i ≡ Some key → live_child new.trail c key ≡ None
   pub tree : IsTree new.trail
   pub heap : IsHeap new
@@ -142,6 +189,7 @@ pub record IsWalked (old new : View) (root m c n : ℕ) : Type 0 where
   pub count : ℕ
   pub ended : IsLiveEnd old.trail root m n end count
   pub writes : Adds (Reshapes old.used NoMap (WalkGets old.trail end m count n old.used.fields)) old.trail new.trail
+  pub gets : (f : ℕ) (d : Detail) → WalkGets old.trail end m count n old.used.fields f d → detail_in new.trail f ≡ Some d
   pub opens : OpensNoRoot old.trail new.trail
   pub linked : AreLinked old.trail new.trail
   pub needs : IsWithin (walk_need n) old.used new.used
@@ -180,6 +228,7 @@ pub record HasMapFor (old new : View) (null then_null : Option ℕ) (m c n : ℕ
   pub count : ℕ
   pub ended : IsLiveEnd (with_root_for (root_of old.trail proto null) old.trail proto root) root m n end count
   pub writes : Adds (Reshapes old.used NoMap (WalkGets old.trail end m count n old.used.fields)) old.trail new.trail
+  pub gets : (f : ℕ) (d : Detail) → WalkGets old.trail end m count n old.used.fields f d → detail_in new.trail f ≡ Some d
   pub linked : AreLinked old.trail new.trail
   pub roots : AreRoots new.trail then_null
   pub needs : IsWithin (shared_need old.trail n proto null) old.used new.used

@@ -11,7 +11,7 @@ ghost use Rattle.hc_descs.specs.Entries.{LacksName, count_of, field_at};
 ghost use Rattle.hc_fields.specs.Fields.{raised};
 ghost use Rattle.hc_links.specs.Chains.{links_in};
 ghost use Rattle.hc_tree.specs.Tree.{IsTree, IsChildFor, IsDeadFor, IsNarrow, IsProperKey, tagged_field};
-ghost use Rattle.hc_tree.specs.Details.{ChildGets, NoMap, Reshapes, child_detail};
+ghost use Rattle.hc_tree.specs.Details.{ChildGets, DetailsAre, NoMap, Reshapes, child_detail};
 ghost use Rattle.hc_tree.specs.Needs.{HasSpace, IsSpaceExact, used_after, with_need};
 ghost use Rattle.hc_tree.specs.Growth.{MayGrow, EndsWith, MakesMap, IsUnmoved, IsReadyChild, live_child, child_need, marked};
 
@@ -54,6 +54,7 @@ pub fn child_or_make<P: Pace>(
     ensures used { h.new.view.used ≡ used_after result (child_need (live_child h.old.view.trail map key) (count_of h.old.view.trail map)) h.old.view.used }
     ensures still { IfErr result (λ e. IsUnmoved h.old h.new) }
     ensures writes { Adds (Reshapes h.old.view.used NoMap (ChildGets h.old.view.trail (live_child h.old.view.trail map key) (count_of h.old.view.trail map) detail h.old.view.used.fields)) h.old.view.trail h.new.view.trail }
+    ensures details { IfOk result (λ c. DetailsAre (ChildGets h.old.view.trail (live_child h.old.view.trail map key) (count_of h.old.view.trail map) detail h.old.view.used.fields) h.old.view.trail h.new.view.trail) }
     ensures raised { (c f : ℕ) → live_child h.old.view.trail map key ≡ Some c → field_at h.old.view.trail c (count_of h.old.view.trail map) ≡ Some f → h.new.view ≡ record h.old.view { trail = raised h.old.view.trail f detail } }
     ensures begins { IfOk result (λ c. live_child h.old.view.trail map key ≡ None → Adds (MakesMap h.old.view.used (Some map)) (marked h.old.view.trail map) h.new.view.trail) }
     ensures shape { h.new.view.shape ≡ h.old.view.shape }
@@ -117,6 +118,7 @@ pub(crate) fn make_child<P: Pace>(
     ensures live { live_child h.new.view.trail map key ≡ Some result }
     ensures child { IsSomeAnd (gate_in h.new.view.trail map) (λ g. IsChildFor h.new.view.trail map g result key) }
     ensures ends { EndsWith h.new.view.trail result n key detail }
+    ensures detail { detail_in h.new.view.trail h.old.view.used.fields ≡ Some detail }
     ensures bare { links_in h.new.view.trail result ≡ [] }
     ensures used { h.new.view.used ≡ with_need (child_need None n) h.old.view.used }
     ensures gets { Adds (Reshapes h.old.view.used NoMap (ChildGets h.old.view.trail None n detail h.old.view.used.fields)) h.old.view.trail h.new.view.trail }

@@ -8,10 +8,11 @@ ghost use Rattle.hc_heap.specs.Kept.{Adds};
 ghost use Rattle.hc_heap.specs.States.{IsHeap, Goes, HasRoom, with_write};
 ghost use Rattle.hc_descs.specs.Copies.{HasArray};
 ghost use Rattle.hc_descs.specs.Entries.{count_of, field_at, IsOpenMap};
+ghost use Rattle.hc_tree.specs.Details.{DetailsAre};
 ghost use Rattle.hc_tree.specs.Tree.{AreNarrow, IsTree, gate_with};
 ghost use Rattle.hc_tree.specs.Needs.{HasSpace, IsSpaceExact, used_after};
 ghost use Rattle.hc_tree.specs.Growth.{IsPlaced, MayBePrototype, IsUnmoved, MakesMap};
-ghost use Rattle.hc_tree.specs.Copying.{Extra, MayBeLast, IsClosed, IsWhole, IsPrivateCopy, HasCopied, HasMore, FillsCopy, with_closed, filled_used, copy_need, copied_count, copied_array, copied_fields};
+ghost use Rattle.hc_tree.specs.Copying.{CopyGets, Extra, MayBeLast, IsClosed, IsWhole, IsPrivateCopy, HasCopied, HasMore, FillsCopy, with_closed, filled_used, copy_need, copied_count, copied_array, copied_fields};
 
 use crate::fields::new_fields;
 use crate::laws::maps_are_kept;
@@ -39,6 +40,7 @@ pub fn private_copy<P: Pace>(
     requires alone { IsTrue fresh → more ≡ None }
     requires more { IfSome more (λ e. MayBeLast h.old.view.shape h.old.view.trail map e.0 e.1) }
     ensures number { IfOk result (λ c. c ≡ h.old.view.used.maps) }
+    ensures details { IfOk result (λ c. DetailsAre (CopyGets fresh more h.old.view.trail map (count_of h.old.view.trail map) h.old.view.used.fields) h.old.view.trail h.new.view.trail) }
     ensures copy { IfOk result (λ c. IsPrivateCopy fresh more proto h.new.view.trail c map (count_of h.old.view.trail map) h.old.view.used.fields) }
     ensures space { IsSpaceExact h.old.view (copy_need fresh more (count_of h.old.view.trail map)) result }
     ensures used { h.new.view.used ≡ used_after result (copy_need fresh more (count_of h.old.view.trail map)) h.old.view.used }
@@ -87,6 +89,7 @@ fn make_copy<P: Pace>(
     requires more { IfSome more (λ e. MayBeLast h.old.view.shape h.old.view.trail map e.0 e.1) }
     requires space { HasSpace h.old.view (copy_need fresh more n) }
     ensures number { result ≡ h.old.view.used.maps }
+    ensures details { DetailsAre (CopyGets fresh more h.old.view.trail map n h.old.view.used.fields) h.old.view.trail h.new.view.trail }
     ensures copy { IsPrivateCopy fresh more proto h.new.view.trail result map n h.old.view.used.fields }
     ensures used { h.new.view.used ≡ record (filled_used fresh more n h.old.view.used) { maps = h.old.view.used.maps + 1 } }
     ensures writes { Adds (MakesMap h.old.view.used None) h.old.view.trail h.new.view.trail }
@@ -98,6 +101,7 @@ fn make_copy<P: Pace>(
 {
     maps_are_kept();
     unused_says_nothing();
+    h.stands();
     let copy = new_closed(h, proto);
     fill(h, map, copy, n, fresh, more);
     open_private(h, copy, copied(more, n));

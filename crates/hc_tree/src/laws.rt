@@ -1,5 +1,5 @@
 //! What a lawful trail keeps of maps. The functions do nothing: each has a law as its contract, for a proof that calls it.
-ghost use Rattle.hc_tree.specs.Dying.{OneIsLive, OwnerIsFreed, OwnersStand};
+ghost use Rattle.hc_tree.specs.Dying.{LiveStandHigh, OneIsLive, OwnerIsFreed, OwnersStand, ParentIsSpared};
 ghost use Rattle.hc_tree.specs.Kept.{MapsAreKept, TreesStay};
 
 use hc_heap::{details_rise, entries_are_kept, gates_are_open, written_is_kept};
@@ -37,3 +37,11 @@ pub fn owner_is_freed()
 {
     same_keys_are_equal();
 }
+
+pub fn live_stand_high()
+    ensures law { LiveStandHigh }
+{}
+
+pub fn parent_is_spared()
+    ensures law { ParentIsSpared }
+{}

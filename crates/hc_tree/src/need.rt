@@ -3,7 +3,7 @@ ghost use Rattle.std.specs.Prelude.{◌≡◌, ◌+◌, ◌*◌, ◌<◌, ◌≤
 ghost use Rattle.hc_layout.specs.declared.capacity.TheConstants.{MAX_FAST};
 ghost use Rattle.hc_tree.specs.Copying.{Extra, copy_need};
 ghost use Rattle.hc_tree.specs.Growth.{child_need, root_need};
-ghost use Rattle.hc_tree.specs.Needs.{HasSpace, IsFew, array_of, arrays_upto, both, no_need, slots_alone, walk_need};
+ghost use Rattle.hc_tree.specs.Needs.{HasSpace, IsFew, array_of, arrays_upto, both, build_need, no_need, slots_alone, walk_need};
 
 use hc_heap::{Heap, Pace};
 use hc_layout::{MAX_FAST, Region, cap};
@@ -157,6 +157,22 @@ pub fn of_walk(n: u32) -> Need
         entries: entries_of_walk(n),
         fields: n,
         links: n,
+        slots: 0,
+    }
+}
+
+/// What new maps need for the properties of a map with n entries, from the i-th on.
+pub fn of_build(i: u32, n: u32) -> Need
+    requires few { n ≤ MAX_FAST }
+    requires within { i ≤ n }
+    ensures need { result ≡ build_need i n }
+    ensures few { IsFew result }
+{
+    Need {
+        maps: n - i,
+        entries: entries_of_walk(n) - entries_of_walk(i),
+        fields: n - i,
+        links: n - i,
         slots: 0,
     }
 }

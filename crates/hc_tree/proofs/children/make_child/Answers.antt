@@ -5,7 +5,7 @@ use Rattle.hc_tree.specs.Details.{ChildGets, NoMap, Reshapes}
 use Rattle.std.specs.Prelude.{IsSomeAnd}
 use Rattle.hc_layout.specs.declared.shape.Shape.{Shape}
 use Rattle.hc_heap.specs.Writes.{Trail, Gate}
-use Rattle.hc_heap.specs.Readings.{gate_in}
+use Rattle.hc_heap.specs.Readings.{detail_in, gate_in}
 use Rattle.hc_heap.specs.Lawful.{Lawful}
 use Rattle.hc_heap.specs.States.{View}
 use Rattle.hc_heap.specs.Kept.{Adds}
@@ -96,3 +96,11 @@ pub returns-clause-bare : goal.returns-clause-bare
 returns-clause-bare g c =
     subst (λ (t : Trail). links_in t c.begin_child-child.result ≡ []) (sym (trail-is g c))
     (child-bare c.begin_child-child.new.h.view.trail c.args.map c.begin_child-child.result c.args.n c.set_gate.new.self.view.used.links c.mark_unstable.new.h.view.used.fields c.args.key c.begin_child-child.ensures.ready)
+
+pub returns-clause-detail : goal.returns-clause-detail
+returns-clause-detail g c =
+    let v = c.args.h.now.view in
+    let w = c.begin_child-child.new.h.view in
+    let used : c.mark_unstable.new.h.view.used ≡ v.used = ap (λ (x : View). x.used) c.mark_unstable.ensures.view in
+    subst (λ (t : Trail). detail_in t v.used.fields ≡ Some c.args.detail) (sym (trail-is g c))
+    (subst (λ (u : Shape). detail_in w.trail u.fields ≡ Some c.args.detail) used c.begin_child-child.ensures.detail)

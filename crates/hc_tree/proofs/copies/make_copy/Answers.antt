@@ -1,8 +1,9 @@
-use Rattle.std.proofs.Common.{◌≡◌, ℕ, None, true, ap, sym, ◌∙◌, subst, arith, IfSome}
+use Rattle.std.proofs.Common.{◌≡◌, ℕ, ◌+◌, None, Some, true, ap, sym, ◌∙◌, subst, arith, IfSome}
 use Rattle.std.specs.Prelude.{IsSomeAnd}
 use Rattle.hc_layout.specs.declared.shape.Shape.{Shape}
 use Rattle.hc_heap.specs.Writes.{Trail, Gate}
-use Rattle.hc_heap.specs.Readings.{gate_in}
+use Rattle.hc_heap.specs.Readings.{detail_in, gate_in}
+use Rattle.hc_layout.specs.declared.words.GateWord.{GateWord}
 use Rattle.hc_heap.specs.Lawful.{Lawful}
 use Rattle.hc_heap.specs.Kept.{Adds}
 use Rattle.hc_heap.specs.States.{View, with_write}
@@ -10,7 +11,9 @@ use Rattle.hc_descs.specs.Copies.{HasArray}
 use Rattle.hc_tree.specs.Tree.{gate_with}
 use Rattle.hc_tree.specs.Growth.{IsPlaced, MakesMap}
 use Rattle.hc_tree.proofs.Placed.{copied-placed}
-use Rattle.hc_tree.specs.Copying.{MayBeLast, FillsCopy, HasCopied, IsPrivateCopy, IsWhole, with_closed}
+use Rattle.hc_tree.specs.Copying.{MayBeLast, FillsCopy, HasCopied, IsPrivateCopy, IsWhole, copied_fields, with_closed}
+use Rattle.hc_tree.proofs.Got.{copy-got, extra-got}
+use Rattle.hc_tree.proofs.Made.{some-with}
 use Rattle.hc_tree.proofs.Whole.{fill-tree, fill-closed, fill-prototype, filled-whole, may-still, private-copy, makes-copy}
 use Rattle.hc_tree.proofs.copies.make_copy.Goals as goal
 
@@ -89,3 +92,19 @@ returns-clause-writes g c =
     (subst (λ (f : ℕ). Adds (FillsCopy copy a.used.entries f) (with_closed v.trail c.args.proto copy) b.trail) fields writes) in
     subst (λ (t : Trail). Adds (MakesMap v.used None) v.trail t) (sym (ap (λ (w : View). w.trail) c.open_private.ensures.view))
     (makes-copy v.used v.trail b.trail copy c.copied.result c.args.proto (omega (arith, c.new_closed-copy.ensures.number)) within)
+
+pub returns-clause-details : goal.returns-clause-details
+returns-clause-details g c =
+    let v = c.args.h.now.view in
+    let a = c.new_closed-copy.new.h.view in
+    let b = c.fill.new.h.view in
+    let w = c.open_private.new.h.view in
+    let copy = c.new_closed-copy.result in
+    let fields : a.used.fields ≡ v.used.fields = ap (λ (x : View). x.used.fields) c.new_closed-copy.ensures.view in
+    let last = c.open_private.ensures.view in
+    let some = some-with (λ (x : GateWord). x.entries ≡ c.args.n) (gate_in v.trail c.args.map) c.requires.open in
+    let whole : IsPrivateCopy c.args.fresh c.args.more c.args.proto w.trail copy c.args.map c.args.n v.used.fields = returns-clause-copy g c in
+    copy-got c.maps_are_kept.ensures.law c.unused_says_nothing.ensures.law v w copy c.args.map c.args.n some.0 c.stands.ensures.heap c.open_private.ensures.heap
+    (ap (λ (x : View). x.shape) last ∙ (c.fill.ensures.shape ∙ ap (λ (x : View). x.shape) c.new_closed-copy.ensures.view)) some.1.0 some.1.1 (returns-clause-writes g c) c.args.fresh c.args.more whole.entries
+    (ap (λ (x : View). x.used.fields) last ∙ (ap (λ (s : Shape). s.fields) c.fill.ensures.used ∙ ap (λ (k : ℕ). k + copied_fields c.args.fresh c.args.more c.args.n) fields))
+    (λ e is. ap (λ (x : View). detail_in x.trail v.used.fields) last ∙ subst (λ (k : ℕ). detail_in b.trail k ≡ Some e.1) fields (extra-got c.args.more b.trail copy c.args.n a.used.fields e is c.fill.ensures.last (c.fill.ensures.number e is)))
