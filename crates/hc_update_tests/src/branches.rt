@@ -1,0 +1,133 @@
+ghost use Rattle.std.specs.Prelude.{◌≡◌, ◌+◌, ◌<◌, ◌^◌, IfSome};
+ghost use Rattle.hc_layout.specs.declared.words.TheConstants.{NAME_BITS};
+ghost use Rattle.hc_heap.specs.Lawful.{IsKey};
+ghost use Rattle.hc_value.specs.declared.prop.Kind.TheVariants.{DataProp};
+ghost use Rattle.hc_tree.specs.Tree.{IsProperKey, IsTree};
+ghost use Rattle.hc_update_tests.specs.Branches.{IsEnd, IsPlain, RootsStay};
+
+use bitflags::Flags;
+use hc_heap::{Free, Heap, Space};
+use hc_layout::{Region, Shape};
+use hc_tree::{child_or_make, detail_at, maps_are_kept, root};
+use hc_update::{generalise_shared, updated};
+use hc_value::{Attrs, Class, Constness, Detail, Key, Kind, Rep};
+use std::test::Fail;
+
+const SMALL: Detail = Detail {
+    rep: Rep::Smi,
+    constness: Constness::Const,
+    class: Class::Any,
+};
+
+const OBJECT: Detail = Detail {
+    rep: Rep::HeapObject,
+    constness: Constness::Const,
+    class: Class::Any,
+};
+
+// The key of a data property without attributes.
+fn data(name: u32) -> Key
+    requires { name < 2 ^ NAME_BITS }
+    ensures name { result.name ≡ name }
+    ensures kind { result.kind ≡ DataProp }
+    ensures form { IsKey result }
+    ensures proper { IsProperKey result }
+{
+    Key {
+        name,
+        kind: Kind::DataProp,
+        attrs: Attrs::from_bits_retain(0),
+    }
+}
+
+// The child of a branch's last map for the next name.
+fn next(heap: &mut Heap<Free>, map: u32, n: u32, detail: Detail) -> Option<u32>
+    requires few { n < 8 }
+    requires end { IsEnd heap.old.view map n }
+    requires detail { IsPlain detail }
+    ensures end { IfSome result (λ c. IsEnd heap.new.view c (n + 1)) }
+    ensures roots { RootsStay heap.old.view.trail heap.new.view.trail }
+{
+    maps_are_kept();
+    match child_or_make(heap, map, data(n), detail) {
+        Ok(child) => Some(child),
+        Err(Space) => None,
+    }
+}
+
+// A child of a branch's last map for a name of its own. The branch may still grow.
+fn beside(heap: &mut Heap<Free>, map: u32, n: u32, detail: Detail) -> bool
+    requires few { n < 8 }
+    requires end { IsEnd heap.old.view map n }
+    requires detail { IsPlain detail }
+    ensures end { IsEnd heap.new.view map n }
+    ensures roots { RootsStay heap.old.view.trail heap.new.view.trail }
+{
+    maps_are_kept();
+    match child_or_make(heap, map, data(9), detail) {
+        Ok(_) => true,
+        Err(Space) => false,
+    }
+}
+
+// How many maps are deprecated.
+fn dead(heap: &mut Heap<Free>) -> u32 {
+    let mut count = 0;
+    for map in 0..heap.used(Region::Maps) {
+        if heap.bits(map).deprecated {
+            count += 1;
+        }
+    }
+    count
+}
+
+// Of a branch of three, with a fourth map beside the last, the field of an entry is to admit more. The answer is how many maps
+// died, how many were made, the representation of the entry's new field, and whether an update of the branch's dead end finds
+// the new map, and makes none.
+fn outcome(
+    heap: &mut Heap<Free>,
+    before: Detail,
+    i: u32,
+    given: Detail,
+) -> Option<(u32, u32, Rep, bool)>
+    requires tree { IsTree heap.old.view.trail }
+    requires entry { i < 3 }
+    requires before { IsPlain before }
+    requires given { IsPlain given }
+{
+    maps_are_kept();
+    let mut of_null = None;
+    let Ok(root) = root(heap, None, &mut of_null) else {
+        return None;
+    };
+    let first = next(heap, root, 0, before)?;
+    let second = next(heap, first, 1, before)?;
+    beside(heap, second, 2, before);
+    let third = next(heap, second, 2, before)?;
+    let maps = heap.used(Region::Maps);
+    let Ok(map) = generalise_shared(heap, third, 3, i, given) else {
+        return None;
+    };
+    let made = heap.used(Region::Maps).saturating_sub(maps);
+    let now = detail_at(heap, map, i);
+    let found = updated(heap, third, root) == Ok(map);
+    let still = heap.used(Region::Maps) == maps.saturating_add(made);
+    Some((dead(heap), made, now.rep, found && still))
+}
+
+#[test]
+fn the_owner_dies_with_its_subtree_and_new_maps_are_found(rt: HostRuntime) -> Result<(), Fail> {
+    let table = [
+        (SMALL, 0, OBJECT, (4, 3, Rep::Tagged, true)),
+        (SMALL, 1, OBJECT, (3, 2, Rep::Tagged, true)),
+        (SMALL, 2, OBJECT, (1, 1, Rep::Tagged, true)),
+        (OBJECT, 1, SMALL, (3, 2, Rep::Tagged, true)),
+        (OBJECT, 2, OBJECT, (1, 1, Rep::HeapObject, true)),
+        (SMALL, 0, SMALL, (4, 3, Rep::Smi, true)),
+    ];
+    for (before, i, given, expected) in table {
+        let mut heap = Heap::new(rt.alloc(), Shape::usual(), Free)?;
+        assert!(rt; outcome(&mut heap, before, i, given) == Some(expected));
+    }
+    Ok(())
+}
