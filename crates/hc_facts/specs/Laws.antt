@@ -59,3 +59,7 @@ LeavingKeepsConstants = (old new : Trail) (o m : ℕ) → map_in old o ≡ Some 
 abbrev pub StoringKeepsConstants : Type 0
 StoringKeepsConstants = (old new : Trail) (o i : ℕ) → ((k : ℕ) → k ≢ i → slot_word new o k ≡ slot_word old o k)
     → ((m f : ℕ) (d : Detail) → HasDatum old o m i f → detail_in new f ≡ Some d → d.constness ≡ Const → slot_word new o i ≡ slot_word old o i) → ConstantsStayFor old new o
+
+-- constants stay over one step and a further one
+abbrev pub ConstantsStayOn : Type 0
+ConstantsStayOn = (s : Shape) (old middle new : Trail) → GoesOn s old middle → GoesOn s middle new → ConstantsStay old middle → ConstantsStay middle new → ConstantsStay old new

@@ -1,6 +1,6 @@
 //! What keeps it true that fields are honest and constants stay. The functions do nothing: each has a law as its contract, for a
 //! proof that calls it.
-ghost use Rattle.hc_facts.specs.Laws.{ConstantsAfter, HonestAfter, KeptIsCarried, LeavingKeepsConstants, MovedIsCarried, StoredIsGiven, StoringKeepsConstants};
+ghost use Rattle.hc_facts.specs.Laws.{ConstantsAfter, ConstantsStayOn, HonestAfter, KeptIsCarried, LeavingKeepsConstants, MovedIsCarried, StoredIsGiven, StoringKeepsConstants};
 
 use hc_heap::{
     details_rise, entries_are_kept, forms_are_kept, gates_are_open, set_is_kept, stable_is_kept,
@@ -50,3 +50,15 @@ pub fn stored_is_given()
 pub fn storing_keeps_constants()
     ensures law { StoringKeepsConstants }
 {}
+
+/// Constants stay over one step and a further one.
+pub fn constants_stay_on()
+    ensures law { ConstantsStayOn }
+{
+    written_is_kept();
+    entries_are_kept();
+    set_is_kept();
+    stable_is_kept();
+    details_rise();
+    gates_are_open();
+}

@@ -5,7 +5,7 @@ mod laws;
 mod values;
 
 pub use laws::{
-    constants_after, honest_after, kept_is_carried, leaving_keeps_constants, moved_is_carried,
-    stored_is_given, storing_keeps_constants,
+    constants_after, constants_stay_on, honest_after, kept_is_carried, leaving_keeps_constants,
+    moved_is_carried, stored_is_given, storing_keeps_constants,
 };
 pub use values::{class_of_object, detail_for};
