@@ -10,7 +10,6 @@ use Rattle.hc_heap.specs.Kept.{DetailsRise, UnusedSaysNothing}
 use Rattle.hc_heap.specs.States.{View}
 use Rattle.hc_descs.specs.Entries.{LacksName}
 use Rattle.hc_tree.specs.Kept.{MapsAreKept, TreesStay}
-use Rattle.hc_tree.specs.Tree.{tagged_field}
 use Rattle.hc_table.specs.Attributes.{IsProper}
 use Rattle.hc_table.specs.Changes.{Added}
 use Rattle.hc_table.specs.Kept.{ChangesKeep}

@@ -1,5 +1,5 @@
 -- What the field of a fast object's property admits is joined with more: the objects are as they were.
-use Rattle.std.proofs.Common.{◌≡◌, ℕ, zero, suc, ◌+◌, ◌<◌, Bool, true, false, cond, [], ◌∷◌, List, Option, Some, None, length, refl, sym, ap, ◌∙◌, subst, arith}
+use Rattle.std.proofs.Common.{◌≡◌, ℕ, zero, suc, ◌<◌, Bool, true, false, cond, [], ◌∷◌, List, Option, Some, None, length, refl, sym, ap, ◌∙◌, subst, arith}
 use Rattle.std.specs.Prelude.{IsSomeAnd}
 use Rattle.std.proofs.Math.Nat.{le_refl}
 use Rattle.hc_layout.specs.declared.words.GateWord.{GateWord}
@@ -10,26 +10,27 @@ use Rattle.hc_value.specs.declared.field.Detail.{Detail}
 use Rattle.hc_value.specs.declared.prop.Held.{Held}
 use Rattle.hc_value.specs.declared.prop.Kind.{Kind}
 use Rattle.hc_value.specs.declared.prop.Prop.{Prop}
-use Rattle.hc_heap.specs.Writes.{Trail, Write, FieldDetail}
+use Rattle.hc_heap.specs.Writes.{Trail, FieldDetail}
 use Rattle.hc_heap.specs.Readings.{bits_in, detail_in, gate_in, map_in, root_in, store_in, slot_in}
 use Rattle.hc_heap.specs.Kept.{Adds, DetailsRise, UnusedSaysNothing}
 use Rattle.hc_heap.specs.Frames.{adds-none, adds-one, goes-on-of}
 use Rattle.hc_heap.specs.States.{View, IsHeap}
 use Rattle.hc_descs.specs.Entries.{entries_in, field_at}
 use Rattle.hc_fields.specs.Fields.{raised, raised_from}
+use Rattle.hc_tree.specs.Details.{WritesDetails}
 use Rattle.hc_tree.specs.Tree.{IsTree}
 use Rattle.hc_tree.specs.Kept.{MapsAreKept}
 use Rattle.hc_table.specs.Changes.{kind_at}
 use Rattle.hc_table.specs.World.{props_at}
 use Rattle.hc_slots.specs.Meaning.{Dictionary, object_shown, fast_props}
-use Rattle.hc_slots.specs.Slots.{AreHandedOut, IsIn}
+use Rattle.hc_slots.specs.Slots.{AreHandedOut, IsIn, Owns}
 use Rattle.hc_slots.specs.Fast.{HasMap}
 use Rattle.hc_slots.specs.Cases.{not-both, some-is}
 use Rattle.hc_objects.specs.Meaning.{kept_of, world}
 use Rattle.hc_objects.specs.State.{IsObjects}
 use Rattle.hc_value.specs.declared.field.Constness.{Constness}
 use Rattle.hc_objects.specs.Admitting.{IsAdmitted, held_detail}
-use Rattle.hc_objects.specs.Changes.{Stepped, Touches, WordsStay}
+use Rattle.hc_objects.specs.Changes.{Changed, Stepped, Touches, WordsStay}
 use Rattle.hc_objects.proofs.Owning.{alone-still}
 use Rattle.hc_objects.proofs.Places.{place-fast}
 use Rattle.hc_objects.proofs.Prototypes.{same-world, same-sound}
@@ -56,6 +57,18 @@ raised-touches v o t f d = by (detail_in t f)
     within e false = adds-one t (FieldDetail f (joined_detail e d)) tt
 
     by : (was : Option Detail) → Adds (Touches v o) t (raised_from was t f d)
+    by None = adds-none t
+    by (Some e) = within e (is_detail_within d e)
+
+-- details alone are written
+pub raised-writes : (t : Trail) (f : ℕ) (d : Detail) → Adds WritesDetails t (raised t f d)
+raised-writes t f d = by (detail_in t f)
+  where
+    within : (e : Detail) (b : Bool) → Adds WritesDetails t (cond b t (FieldDetail f (joined_detail e d) ∷ t))
+    within e true = adds-none t
+    within e false = adds-one t (FieldDetail f (joined_detail e d)) tt
+
+    by : (was : Option Detail) → Adds WritesDetails t (raised_from was t f d)
     by None = adds-none t
     by (Some e) = within e (is_detail_within d e)
 
@@ -100,6 +113,9 @@ module _ (maps : MapsAreKept) (details : DetailsRise) (unused : UnusedSaysNothin
       proto = raised-same (λ (t : Trail). (root_in t o).is_proto) v.trail f d (λ e. refl);
     }
 
+    pub admit-changed : Changed v then o
+    admit-changed = record { writes = raised-touches v o v.trail f d; shape = refl; slots = le_refl v.used.slots; tree = tree; heap = heap }
+
     step : Stepped v then None o (object_shown v.trail o (kept_of kept o) (map_in v.trail o))
     step = record {
       changed = record { writes = raised-touches v o v.trail f d; shape = refl; slots = le_refl v.used.slots; tree = tree; heap = heap };
@@ -139,6 +155,11 @@ module _ (old new : View) (o i : ℕ) (held : Held) (constness : Constness) (it 
 
   pub admitted-maps : (q : ℕ) → map_in new.trail q ≡ map_in old.trail q
   admitted-maps q = ap (λ (v : View). map_in v.trail q) it.view ∙ raised-same (λ (t : Trail). map_in t q) old.trail it.field (held_detail old.trail held constness) (λ e. refl)
+
+  pub admitted-owns : (s : ℕ) → Owns new.trail o s → s < old.used.slots → Owns old.trail o s
+  admitted-owns s owns lt =
+      let store : store_in new.trail o ≡ store_in old.trail o = ap (λ (v : View). store_in v.trail o) it.view ∙ raised-same (λ (t : Trail). store_in t o) old.trail it.field (held_detail old.trail held constness) (λ e. refl) in
+      subst (λ (w : StoreWord). IsIn w s) store owns
 
   pub admitted-roots : (q : ℕ) → root_in new.trail q ≡ root_in old.trail q
   admitted-roots q = ap (λ (v : View). root_in v.trail q) it.view ∙ raised-same (λ (t : Trail). root_in t q) old.trail it.field (held_detail old.trail held constness) (λ e. refl)

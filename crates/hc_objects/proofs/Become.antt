@@ -11,11 +11,16 @@ use Rattle.hc_tree.specs.declared.need.Need.{Need}
 use Rattle.hc_tree.specs.Copying.{copy_need}
 use Rattle.hc_tree.specs.Growth.{IsUnmoved}
 use Rattle.hc_tree.specs.Needs.{HasSpace, no_need, with_need}
+use Rattle.hc_board.specs.Trail.{Access}
+use Rattle.hc_objects.specs.Becoming.{HasBecome, IsSettled}
 use Rattle.hc_objects.specs.Came.{IsStill}
+use Rattle.hc_objects.specs.Changes.{KeptBut}
+use Rattle.std.specs.Prelude.{IsTrue}
 use Rattle.hc_slots.specs.Meaning.{Dictionary}
 use Rattle.hc_objects.specs.Meaning.{cause_in, kept_of}
 use Rattle.hc_objects.specs.Modes.{Becomes, if_fast, need_by, proto_need}
-use Rattle.hc_objects.specs.State.{ObjectsState}
+use Rattle.hc_objects.specs.State.{IsObjects, ObjectsState}
+use Rattle.hc_objects.proofs.Composing.{still-steps}
 use Rattle.hc_slots.specs.Cases.{some-of}
 
 -- Needs
@@ -103,4 +108,27 @@ module _ {P : Type 0} where
             ∙ ap (λ (x : List (Option Dictionary)). let s : ObjectsState P = record { heap = now; kept = x; of_null = d.of_null } in s) kept
             ∙ ap (λ (x : Option ℕ). let s : ObjectsState P = record { heap = now; kept = a.kept; of_null = x } in s) null;
         loads = le;
+      }
+
+-- an object that is or was a prototype stays as it is
+
+if-none : (c : Option Cause) → if_fast c no_need ≡ no_need
+if-none (Some c) = refl
+if-none None = refl
+
+module _ {P : Type 0} (went : P → List Access → List Access → P → Type 0) where
+  pub settled-still : ((p : P) (t : List Access) → went p t t p) → (a b : ObjectsState P) (p : ℕ) → IsObjects a.heap.view a.kept a.of_null → IsStill a b → IsTrue (root_in a.heap.view.trail p).is_proto → IsSettled went a p b
+  settled-still stays a b p sound still proto =
+      let none : proto_need a.heap.view.trail p ≡ no_need = proto-none a.heap.view p proto in
+      let room : HasSpace a.heap.view (proto_need a.heap.view.trail p) = subst (λ (n : Need). HasSpace a.heap.view n) (sym none) (space-none a.heap.view sound.heap) in
+      let need : if_fast (cause_in a.kept p) (proto_need a.heap.view.trail p) ≡ no_need = ap (λ (n : Need). if_fast (cause_in a.kept p) n) none ∙ if-none (cause_in a.kept p) in
+      record {
+        steps = still-steps went stays a b sound still;
+        mode = subst (λ (s : ObjectsState P). Becomes (cause_in a.kept p) None (HasSpace a.heap.view (proto_need a.heap.view.trail p)) (cause_in s.kept p)) (sym still.is)
+            (mode-same (cause_in a.kept p) (HasSpace a.heap.view (proto_need a.heap.view.trail p)) room);
+        used = subst (λ (s : ObjectsState P). s.heap.view.used ≡ with_need (if_fast (cause_in s.kept p) (proto_need a.heap.view.trail p)) a.heap.view.used) (sym still.is)
+            (with-none a.heap.view.used ∙ ap (λ (n : Need). with_need n a.heap.view.used) (sym need));
+        became = subst (λ (s : ObjectsState P). HasBecome p a.heap.view.trail s.heap.view.trail) (sym still.is) (record { proto = proto; protos = λ q other. refl; roots = λ q. refl; maps = λ q other. refl });
+        others = subst (λ (s : ObjectsState P). KeptBut p a.kept s.kept) (sym still.is) (record { others = λ q other. refl; there = λ q other lt. lt });
+        null = ap (λ (s : ObjectsState P). s.of_null) still.is;
       }

@@ -15,11 +15,11 @@ use Rattle.hc_heap.specs.Frames.{adds-none, adds-one, adds-on, adds-wider, same-
 use Rattle.hc_heap.specs.States.{View, IsHeap, HasRoom}
 use Rattle.hc_links.specs.Chains.{links_in, newest_of}
 use Rattle.hc_links.specs.Laws.{LinkedAreUnstable}
-use Rattle.hc_descs.specs.Entries.{count_of, detail_at, field_at}
+use Rattle.hc_descs.specs.Entries.{count_of, detail_at, detail_of, field_at}
 use Rattle.hc_fields.specs.Fields.{raised, raised_from}
 use Rattle.hc_value.specs.Field.{is_detail_within, joined_detail}
 use Rattle.hc_value.specs.declared.field.Detail.{Detail}
-use Rattle.hc_tree.specs.Details.{ChildGets, NoMap, Reshapes, child_detail, joined_with}
+use Rattle.hc_tree.specs.Details.{ChildGets, NoMap, Reshapes, child_detail}
 use Rattle.hc_tree.specs.Frames.{reshapes-grow}
 use Rattle.hc_tree.specs.Tree.{IsTree, IsChildFor, gate_with}
 use Rattle.hc_objects.specs.Linking.{GrowsTree}
@@ -35,6 +35,7 @@ use Rattle.hc_objects.specs.Changes.{WordsStay, Changed, OpensNoRoot, key_of}
 use Rattle.hc_objects.specs.Admitting.{IsGrownBy}
 use Rattle.hc_objects.specs.Filling.{IsMoved, with_growth, with_slots}
 use Rattle.hc_slots.specs.Cases.{some-and, some-of, not-both, some-is}
+use Rattle.hc_objects.proofs.Asked.{child-asks}
 use Rattle.hc_objects.proofs.Sound.{is-later}
 use Rattle.hc_objects.proofs.Staying.{IsLater, later, fits-still}
 use Rattle.hc_objects.proofs.Found.{grows-touches, map-grown, proto-grown, store-grown, slot-grown}
@@ -261,3 +262,14 @@ module _ (maps : MapsAreKept) (details : DetailsRise) (unused : UnusedSaysNothin
       other = moved.other;
       after = adds-on begins (subst (λ (t : Trail). Adds (MarksAt m) t x.trail) (marked-already w.trail m unstable-then) moved.after);
     }
+
+    -- the field of the last entry admits what was asked
+    pub child-asks-on : map_in x.trail o ≡ Some c → ((f : ℕ) → detail_in x.trail f ≡ detail_in w.trail f) → (k : ℕ) (y : Detail) → map_in x.trail o ≡ Some k → detail_at x.trail k n ≡ Some y → IsTrue (is_detail_within d y)
+    child-asks-on comes same k y has admits =
+        let e = child_detail v.trail (live_child v.trail m (key_of p)) n d in
+        let field = some-and (field_at w.trail c n) (λ f. (owner_in w.trail f ≡ Some c) × (detail_in w.trail f ≡ Some e)) it.ends.field in
+        let to : k ≡ c = some-is k c (sym has ∙ comes) in
+        let entry = later-on.maps.entry c n (gate_with (n + 1) false) child-then (omega arith) in
+        let there : detail_at x.trail c n ≡ Some e = ap (detail_of x.trail) (entry.field ∙ field.1.0) ∙ (same field.0 ∙ field.1.1.1) in
+        let is : e ≡ y = some-is e y (sym there ∙ (ap (λ (z : ℕ). detail_at x.trail z n) (sym to) ∙ admits)) in
+        subst (λ (z : Detail). IsTrue (is_detail_within d z)) is (child-asks v.trail (live_child v.trail m (key_of p)) n d)

@@ -3,39 +3,61 @@ use Rattle.std.proofs.Common.{◌≡◌, ◌≢◌, ℕ, List, [], ◌∷◌, Op
 use Rattle.std.specs.Prelude.{option_map}
 use Rattle.hc_board.specs.Trail.{Access}
 use Rattle.hc_value.specs.declared.reply.Cause.{Cause}
-use Rattle.hc_heap.specs.Frames.{goes-on, extends-none}
+use Rattle.hc_layout.specs.declared.shape.Shape.{Shape}
+use Rattle.hc_heap.specs.Writes.{Trail}
+use Rattle.hc_heap.specs.Lawful.{Lawful}
+use Rattle.hc_heap.specs.Kept.{GoesOn}
+use Rattle.hc_heap.specs.Frames.{goes-further, goes-on, goes-still, extends-none}
+use Rattle.hc_facts.specs.Laws.{ConstantsStayOn}
 use Rattle.hc_heap.specs.States.{Goes}
 use Rattle.hc_table.specs.Changes.{Did, Moved, after}
 use Rattle.hc_table.specs.World.{World}
+use Rattle.hc_objects.specs.Admitting.{FactsStay}
 use Rattle.hc_objects.specs.Changes.{KeptBut}
 use Rattle.hc_slots.specs.Meaning.{Dictionary}
 use Rattle.hc_objects.specs.Meaning.{cause_in, kept_of}
 use Rattle.hc_objects.specs.Modes.{IsOne, Becomes, AllStay}
-use Rattle.hc_objects.specs.State.{ObjectsState}
+use Rattle.hc_objects.specs.State.{IsObjects, ObjectsState}
 use Rattle.hc_objects.specs.Came.{IsStill, Steps, Move, Left, HasLeft, AreMoves, Moves, Made, Effect, moves_before, world_of}
 use Rattle.hc_objects.specs.Laws.{still-refl}
 use Rattle.hc_slots.specs.Cases.{same-or}
+
+-- What fields say
+
+-- nothing was done
+pub facts-none : (s : Shape) (t : Trail) → Lawful s t → FactsStay s t t
+facts-none s t lawful = record { goes = goes-still s lawful; constants = λ o m k f d datum admits const stable. refl; honest = λ h. h }
+
+-- one thing was done after another
+pub facts-on : ConstantsStayOn → (s r : Shape) (a b c : Trail) → r ≡ s → FactsStay s a b → FactsStay r b c → FactsStay s a c
+facts-on law s r a b c same x y = record {
+  goes = goes-further s x.goes (subst (λ (q : Shape). GoesOn q b c) same y.goes);
+  constants = law s a b c x.goes (subst (λ (q : Shape). GoesOn q b c) same y.goes) x.constants y.constants;
+  honest = λ h. y.honest (x.honest h);
+}
 
 -- Steps
 
 module _ {P : Type 0} (went : P → List Access → List Access → P → Type 0) where
   -- moves, and then something
   pub steps-on : ((a b c : P) (first second third : List Access) → went a first second b → went b second third c → went a first third c)
-      → (a b c : ObjectsState P) (did : Did) → Steps went a Moved b → Steps went b did c → Steps went a did c
-  steps-on law a b c did x y = record {
+      → ConstantsStayOn → (a b c : ObjectsState P) (did : Did) → Steps went a Moved b → Steps went b did c → Steps went a did c
+  steps-on law constants a b c did x y = record {
     world = y.world ∙ ap (λ (w : World). after did w) x.world;
     shape = y.shape ∙ x.shape;
     goes = goes-on a.heap.desk b.heap.desk c.heap.desk x.goes y.goes;
     went = law a.heap.pace b.heap.pace c.heap.pace a.heap.desk.trail b.heap.desk.trail c.heap.desk.trail x.went y.went;
+    keeps = facts-on constants a.heap.view.shape b.heap.view.shape a.heap.view.trail b.heap.view.trail c.heap.view.trail x.shape x.keeps y.keeps;
   }
 
   -- nothing is a move
-  pub still-steps : ((p : P) (t : List Access) → went p t t p) → (a b : ObjectsState P) → IsStill a b → Steps went a Moved b
-  still-steps stays a b h = record {
+  pub still-steps : ((p : P) (t : List Access) → went p t t p) → (a b : ObjectsState P) → IsObjects a.heap.view a.kept a.of_null → IsStill a b → Steps went a Moved b
+  still-steps stays a b sound h = record {
     world = ap (λ (s : ObjectsState P). world_of s) h.is;
     shape = ap (λ (s : ObjectsState P). s.heap.view.shape) h.is;
     goes = subst (λ (s : ObjectsState P). Goes a.heap.desk s.heap.desk) (sym h.is) (record { board = refl; trail = extends-none a.heap.desk.trail; loads = h.loads; met = extends-none a.heap.desk.met });
     went = subst (λ (s : ObjectsState P). went a.heap.pace a.heap.desk.trail s.heap.desk.trail s.heap.pace) (sym h.is) (stays a.heap.pace a.heap.desk.trail);
+    keeps = subst (λ (s : ObjectsState P). FactsStay a.heap.view.shape a.heap.view.trail s.heap.view.trail) (sym h.is) (facts-none a.heap.view.shape a.heap.view.trail sound.heap.lawful);
   }
 
 -- Modes

@@ -7,8 +7,9 @@ use Rattle.hc_layout.specs.declared.shape.Shape.{Shape}
 use Rattle.hc_value.specs.declared.reply.Cause.{Cause}
 use Rattle.hc_heap.specs.Writes.{Trail}
 use Rattle.hc_heap.specs.Lawful.{Lawful}
-use Rattle.hc_heap.specs.Readings.{map_in, root_in}
+use Rattle.hc_heap.specs.Readings.{detail_in, map_in, root_in}
 use Rattle.hc_heap.specs.Frames.{goes-none, goes-on}
+use Rattle.hc_facts.specs.Laws.{ConstantsStayOn}
 use Rattle.hc_heap.specs.States.{View}
 use Rattle.hc_tree.specs.declared.need.Need.{Need}
 use Rattle.hc_tree.specs.Growth.{MayBePrototype, root_of, root_need}
@@ -24,7 +25,9 @@ use Rattle.hc_slots.specs.Meaning.{Dictionary, object_shown}
 use Rattle.hc_objects.specs.Meaning.{cause_in, kept_of, object_at}
 use Rattle.hc_objects.specs.Modes.{Becomes, IsWithin, StaysFast, if_fast, proto_need}
 use Rattle.hc_objects.specs.State.{ObjectsState}
-use Rattle.hc_objects.proofs.Composing.{cause-but}
+use Rattle.hc_objects.specs.Details.{BecameGets, DetailsAre, IfFast}
+use Rattle.hc_objects.proofs.Gets.{as-now, details-none}
+use Rattle.hc_objects.proofs.Composing.{cause-but, facts-none, facts-on}
 use Rattle.hc_objects.proofs.Sound.{below-or}
 use Rattle.hc_objects.proofs.Items.{kept-front, kept-past, length-front}
 use Rattle.hc_objects.proofs.Worlds.{length-world, object-world, world-same}
@@ -54,7 +57,7 @@ object-before [] x p lt = absurd (omega arith)
 object-before (y ∷ ys) x zero lt = refl
 object-before (y ∷ ys) x (suc p) lt = object-before ys x p (omega arith)
 
-module _ {P : Type 0} (went : P → List Access → List Access → P → Type 0) (law : (a b c : P) (first second third : List Access) → went a first second b → went b second third c → went a first third c) where
+module _ {P : Type 0} (went : P → List Access → List Access → P → Type 0) (law : (a b c : P) (first second third : List Access) → went a first second b → went b second third c → went a first third c) (constants : ConstantsStayOn) where
   -- something, and then moves
   steps-then : (a b c : ObjectsState P) (did : Did) → Steps went a did b → Steps went b Moved c → Steps went a did c
   steps-then a b c did x y = record {
@@ -62,6 +65,7 @@ module _ {P : Type 0} (went : P → List Access → List Access → P → Type 0
     shape = y.shape ∙ x.shape;
     goes = goes-on a.heap.desk b.heap.desk c.heap.desk x.goes y.goes;
     went = law a.heap.pace b.heap.pace c.heap.pace a.heap.desk.trail b.heap.desk.trail c.heap.desk.trail x.went y.went;
+    keeps = facts-on constants a.heap.view.shape b.heap.view.shape a.heap.view.trail b.heap.view.trail c.heap.view.trail x.shape x.keeps y.keeps;
   }
 
   module _ (a b : ObjectsState P) (proto : Option ℕ) (o : ℕ) (mid : ObjectsState P) (still : IsStill a mid) (begun : IsBegun went mid proto o b) where
@@ -204,6 +208,7 @@ module _ {P : Type 0} (went : P → List Access → List Access → P → Type 0
     };
     needs = subst (λ (s : Shape). IsWithin root mid.heap.view.used s) (sym used) (by (cause_in d.kept o));
     protos = λ q. entered.protos q ∙ ap (λ (v : View). (root_in v.trail q).is_proto) made.view;
+    details = details-none (λ f. entered.details f ∙ ap (λ (v : View). detail_in v.trail f) made.view);
     marks = record { object = o; none = ap (λ (v : View). map_in v.trail o) (sym made.view) ∙ entered.none; marks = subst (λ (v : View). Marks v.trail d.heap.view.trail o) made.view entered.marks };
   }
     where
@@ -264,7 +269,7 @@ module _ {P : Type 0} (went : P → List Access → List Access → P → Type 0
     -- the object that was named is a prototype, before another is made
     pub become-mid : (p : ℕ) → proto ≡ Some p → p < length a.kept → HowBecame a p mid → Lawful c.heap.view.shape c.heap.view.trail → AreLone c.heap.view.trail → IsBecome went a p mid
     become-mid p names lt how lawful lone = record {
-      steps = record { world = world-mid; shape = is.steps.shape; goes = is.steps.goes; went = is.steps.went };
+      steps = record { world = world-mid; shape = is.steps.shape; goes = is.steps.goes; went = is.steps.went; keeps = is.steps.keeps };
       mode = subst (λ (x : Option Cause). Becomes (cause_in a.kept p) None (HasSpace a.heap.view (proto_need a.heap.view.trail p)) x) (sym (cause-front p lt))
           (subst (λ (x : Option ℕ). IsNamed a x c) names is.named);
       used = used-mid
@@ -281,14 +286,15 @@ module _ {P : Type 0} (went : P → List Access → List Access → P → Type 0
     }
 
     -- and then that is made
-    pub made-mid : (p : ℕ) → proto ≡ Some p → IsMade mid proto o c
-    made-mid p names = record {
+    pub made-mid : (p : ℕ) → proto ≡ Some p → Lawful c.heap.view.shape c.heap.view.trail → IsMade mid proto o c
+    made-mid p names lawful = record {
       number = is.number ∙ sym items;
       steps = record {
         world = is.steps.world ∙ ap (λ (w : World). with_object w proto) (sym world-mid);
         shape = refl;
         goes = goes-none c.heap.desk;
         went = stays c.heap.pace c.heap.desk.trail;
+        keeps = facts-none c.heap.view.shape c.heap.view.trail lawful;
       };
       view = ap (λ (n : ℕ). let v : View = record c.heap.view { used = record c.heap.view.used { objects = n } } in v) (ap (λ (s : Shape). s.objects) is.used);
       null = refl;
@@ -315,6 +321,10 @@ module _ {P : Type 0} (went : P → List Access → List Access → P → Type 0
         record {
           marks = subst (λ (t : Trail). Marks t c.heap.view.trail p) (ap (λ (v : View). v.trail) view) how.marks;
           own = λ m is shared. how.own m is (ap (λ (v : View). (root_in v.trail p).is_proto) view ∙ shared);
+          details = subst (λ (x : Option Cause). DetailsAre (IfFast x (BecameGets a.heap.view p)) a.heap.view.trail c.heap.view.trail) (ap (λ (d : Option Dictionary). option_map (λ x. x.cause) d) (sym front))
+              (as-now (cause_in c.kept p) (BecameGets (record a.heap.view { used = record a.heap.view.used { objects = o + 1 } }) p) (BecameGets a.heap.view p)
+              (λ f d k. record { map = k.map; has = k.has; shared = k.shared; gets = k.gets }) (λ f d k. record { map = k.map; has = k.has; shared = k.shared; gets = k.gets })
+              (subst (λ (v : View). DetailsAre (IfFast (cause_in c.kept p) (BecameGets v p)) v.trail c.heap.view.trail) view how.details));
           owns = λ m has shared fast. owned p m (how.owns m (ap (λ (v : View). map_in v.trail p) view ∙ has) (ap (λ (v : View). (root_in v.trail p).is_proto) view ∙ shared) (ap (λ (d : Option Dictionary). option_map (λ x. x.cause) d) (sym front) ∙ fast)) view;
         }
       where
@@ -332,7 +342,7 @@ module _ {P : Type 0} (went : P → List Access → List Access → P → Type 0
         record {
           mid = mid;
           moves = (mid, become-mid stays a c (Some p) o there is p refl lt (how-mid p lt begun how) lawful lone, still-refl mid);
-          own = entered-made mid c d (Some p) o (made-mid stays a c (Some p) o there is p refl) entered;
+          own = entered-made mid c d (Some p) o (made-mid stays a c (Some p) o there is p refl lawful) entered;
         }
     created None there begun named none how lawful lone entered =
         record {

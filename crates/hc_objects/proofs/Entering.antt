@@ -1,5 +1,5 @@
 -- A new object comes to the root of its prototype, or of null, which is made where there is none.
-use Rattle.std.proofs.Common.{◌≡◌, ℕ, ◌<◌, Bool, true, false, cond, eqb, eqb-true, eq-eqb, true≢false, List, Option, Some, None, IfSome, length, set, refl, sym, ap, ◌∙◌, subst, arith}
+use Rattle.std.proofs.Common.{◌≡◌, ◌∷◌, ℕ, ◌<◌, Bool, true, false, cond, eqb, eqb-true, eq-eqb, true≢false, List, Option, Some, None, IfSome, length, set, refl, sym, ap, ◌∙◌, subst, arith}
 use Rattle.std.proofs.lemmas.List.{length-set}
 use Rattle.std.specs.Prelude.{IsSomeAnd, IsTrue}
 use Rattle.hc_layout.specs.declared.shape.Region.TheVariants.{Maps}
@@ -9,9 +9,10 @@ use Rattle.hc_layout.specs.declared.words.MapBits.{MapBits}
 use Rattle.hc_layout.specs.declared.words.RootWord.{RootWord}
 use Rattle.hc_layout.specs.declared.words.StoreWord.{StoreWord}
 use Rattle.hc_heap.specs.Writes.{Trail, ObjectMap}
-use Rattle.hc_heap.specs.Readings.{gate_in, bits_in, map_in, root_in, store_in}
+use Rattle.hc_heap.specs.Readings.{detail_in, gate_in, bits_in, map_in, root_in, store_in}
 use Rattle.hc_heap.specs.Lawful.{LawfulObjectMap, HoldsEntries}
-use Rattle.hc_heap.specs.Kept.{Adds, DetailsRise, UnusedSaysNothing}
+use Rattle.hc_heap.specs.Kept.{Adds, DetailsRise, FormsAreKept, UnusedSaysNothing}
+use Rattle.hc_facts.specs.Laws.{HonestAfter, KeptIsCarried}
 use Rattle.hc_heap.specs.Frames.{adds-none, adds-on, goes-on-of}
 use Rattle.hc_heap.specs.States.{View, IsHeap, with_write}
 use Rattle.hc_descs.specs.Entries.{entries_in}
@@ -20,12 +21,24 @@ use Rattle.hc_tree.specs.Kept.{MapsAreKept, TreesStay}
 use Rattle.hc_tree.specs.Needs.{with_need}
 use Rattle.hc_tree.specs.Tree.{gate_with}
 use Rattle.hc_table.specs.World.{Object, new_object, object}
-use Rattle.hc_objects.specs.Changes.{Touches, Changed, IsWell}
+use Rattle.hc_objects.specs.Admitting.{FactsStay}
+use Rattle.hc_board.specs.Trail.{Access}
+use Rattle.hc_value.specs.declared.reply.Cause.{Cause}
+use Rattle.hc_value.specs.declared.reply.Cause.TheVariants.{Space}
+use Rattle.hc_tree.specs.Needs.{HasSpace}
+use Rattle.hc_objects.specs.Came.{IsStill}
+use Rattle.hc_objects.specs.Creating.{IsEntered}
+use Rattle.hc_objects.specs.Modes.{StaysFast, if_fast}
+use Rattle.hc_objects.proofs.Become.{with-none}
+use Rattle.hc_objects.proofs.Composing.{still-steps}
+use Rattle.hc_objects.proofs.Marking.{words-same}
+use Rattle.hc_objects.specs.Changes.{KeptBut, Touches, Changed, IsWell}
 use Rattle.hc_slots.specs.Listed.{listed}
 use Rattle.hc_slots.specs.Meaning.{Dictionary, is_extensible, object_shown, prop_in, proto_of}
-use Rattle.hc_objects.specs.Meaning.{kept_of, world}
+use Rattle.hc_objects.specs.Meaning.{cause_in, kept_of, world}
 use Rattle.hc_slots.specs.Slots.{AreHandedOut, IsIn}
-use Rattle.hc_objects.specs.State.{AreRoots, IsObjects}
+use Rattle.hc_objects.specs.State.{AreRoots, IsObjects, ObjectsState}
+use Rattle.hc_objects.proofs.Facts.{entered-facts}
 use Rattle.hc_objects.proofs.Items.{kept-set, kept-set_here}
 use Rattle.hc_objects.proofs.Left.{set-object}
 use Rattle.hc_objects.proofs.Owning.{open-used}
@@ -58,6 +71,15 @@ rooted-store : (t : Trail) (r q : ℕ) (proto x : Option ℕ) → store_in (root
 rooted-store t r q proto (Some m) = refl
 rooted-store t r q (Some p) None = refl
 rooted-store t r q None None = refl
+
+rooted-detail : (t : Trail) (r f : ℕ) (proto x : Option ℕ) → detail_in (rooted x t proto r) f ≡ detail_in t f
+rooted-detail t r f proto (Some m) = refl
+rooted-detail t r f (Some p) None = refl
+rooted-detail t r f None None = refl
+
+-- no field gets a detail
+pub enter-details : (v w : View) (null then proto : Option ℕ) (o r : ℕ) → IsRooted v w null then proto r → (f : ℕ) → detail_in (ObjectMap o (Some r) ∷ w.trail) f ≡ detail_in v.trail f
+enter-details v w null then proto o r it f = ap (λ (t : Trail). detail_in t f) it.trail ∙ rooted-detail v.trail r f proto (root_of v.trail proto null)
 
 named-proto : (t : Trail) (p q r : ℕ) (b : Bool) → eqb p q ≡ b → (let w : RootWord = record { is_proto = (root_in t p).is_proto; map = Some r } in cond b w (root_in t q)).is_proto ≡ (root_in t q).is_proto
 named-proto t p q r true is = ap (λ (x : ℕ). (root_in t x).is_proto) (eqb-true p q is)
@@ -134,6 +156,10 @@ module _ (maps : MapsAreKept) (details : DetailsRise) (trees : TreesStay) (unuse
     after : IsLater v.trail new.trail
     after = is-later maps details v new o h.heap changed
 
+    -- the object has no field to fill
+    pub enter-facts : FormsAreKept → HonestAfter → KeptIsCarried → FactsStay v.shape v.trail new.trail
+    enter-facts forms honest carried = entered-facts maps details forms v new kept null h o changed honest carried none r has-it it.root.gate
+
     well : IsWell v new None o
     well = record {
       as_kept = record {
@@ -189,3 +215,21 @@ module _ (maps : MapsAreKept) (details : DetailsRise) (trees : TreesStay) (unuse
           (subst (λ (i : Option Dictionary). IsWell v new i o) (sym item-is) well)
           roots
           (tables-after v new kept (set kept o None) (world v.trail kept) changed.shape enter-world h.sound)
+
+-- there is no room for a root: the object stays slow
+module _ {P : Type 0} (went : P → List Access → List Access → P → Type 0) where
+  pub unentered : ((p : P) (t : List Access) → went p t t p) → (a b : ObjectsState P) (o : ℕ) (proto : Option ℕ) → IsObjects a.heap.view a.kept a.of_null → IsStill a b → cause_in a.kept o ≡ Some Space → map_in a.heap.view.trail o ≡ None
+      → (HasSpace a.heap.view (root_need (root_of a.heap.view.trail proto a.of_null)) → ⊥) → IsEntered went a o proto b
+  unentered stays a b o proto sound still slow none full = record {
+    steps = still-steps went stays a b sound still;
+    mode = subst (λ (s : ObjectsState P). StaysFast (HasSpace a.heap.view (root_need (root_of a.heap.view.trail proto a.of_null))) (cause_in s.kept o)) (sym still.is)
+        (subst (λ (x : Option Cause). StaysFast (HasSpace a.heap.view (root_need (root_of a.heap.view.trail proto a.of_null))) x) (sym slow)
+        (record { stays = (λ e. let f : ⊥ = cc in absurd f, λ r. absurd (full r)); leaves = refl }));
+    used = subst (λ (s : ObjectsState P). s.heap.view.used ≡ with_need (if_fast (cause_in s.kept o) (root_need (root_of a.heap.view.trail proto a.of_null))) a.heap.view.used) (sym still.is)
+        (with-none a.heap.view.used ∙ ap (λ (x : Option Cause). with_need (if_fast x (root_need (root_of a.heap.view.trail proto a.of_null))) a.heap.view.used) (sym slow));
+    protos = λ q. ap (λ (s : ObjectsState P). (root_in s.heap.view.trail q).is_proto) still.is;
+    others = subst (λ (s : ObjectsState P). KeptBut o a.kept s.kept) (sym still.is) (record { others = λ q other. refl; there = λ q other lt. lt });
+    none = none;
+    marks = subst (λ (s : ObjectsState P). Marks a.heap.view.trail s.heap.view.trail o) (sym still.is) (words-same a.heap.view.trail a.heap.view.trail o refl);
+    details = λ f. ap (λ (s : ObjectsState P). detail_in s.heap.view.trail f) still.is;
+  }

@@ -15,7 +15,11 @@ use Rattle.hc_heap.specs.Lawful.{HoldsEntries, IsFormOf, Lawful, LawfulObjectMap
 use Rattle.hc_heap.specs.Kept.{Adds, DetailsRise, FormsAreKept, GoesOn, UnusedSaysNothing}
 use Rattle.hc_heap.specs.Frames.{adds-on, adds-one, adds-wider, goes-on-of, same-after}
 use Rattle.hc_heap.specs.States.{View, HasRoom, IsHeap, with_write}
-use Rattle.hc_descs.specs.Entries.{entries_in}
+use Rattle.hc_descs.specs.Entries.{detail_at, entries_in}
+use Rattle.hc_value.specs.Field.{is_detail_within}
+use Rattle.hc_value.specs.declared.field.Constness.TheVariants.{Const}
+use Rattle.hc_objects.specs.Admitting.{held_detail}
+use Rattle.hc_objects.proofs.Asked.{detail-same}
 use Rattle.hc_tree.specs.Copying.{IsPrivateCopy, copy_need}
 use Rattle.hc_tree.specs.Growth.{MayBePrototype}
 use Rattle.hc_tree.specs.Kept.{MapsAreKept, TreeIsSame, TreesStay}
@@ -58,7 +62,7 @@ opens-before v w x opens after same m g none gate shared parent =
 
 -- a copy with one entry more was made
 module _ (maps : MapsAreKept) (details : DetailsRise) (trees : TreesStay) (unused : UnusedSaysNothing) (proto : Option ℕ) (v w : View) (o m n : ℕ) (p : Prop) (d : Detail)
-    (heap : IsHeap v) (it : IsCopied false (Some (key_of p, d)) proto v w m) (has : map_in v.trail o ≡ Some m) (fast : IsFast v.trail o m (gate_with n true)) (is_proto : prototype_in v.trail m ≡ Some proto) (narrow : IsNarrow d) where
+    (heap : IsHeap v) (it : IsCopied false (Some (key_of p, d)) proto v w m) (has : map_in v.trail o ≡ Some m) (fast : IsFast v.trail o m (gate_with n true)) (is_proto : prototype_in v.trail m ≡ Some proto) (narrow : IsNarrow d) (asked : d ≡ held_detail v.trail p.held Const) where
   after : IsLater v.trail w.trail
   after = copy-later maps details unused false (Some (key_of p, d)) proto v w m heap it
 
@@ -220,6 +224,11 @@ module _ (maps : MapsAreKept) (details : DetailsRise) (trees : TreesStay) (unuse
             opens = opens-before v w new opens moved-later tree-same.gates;
             detail = d;
             narrow = narrow;
+            asks = λ k y to admits.
+                let came : map_in new.trail o ≡ Some v.used.maps = ap (λ (b : Bool). cond b (Some v.used.maps) (map_in x.trail o)) (eq-eqb o o refl) in
+                let is : k ≡ v.used.maps = some-is k v.used.maps (sym to ∙ came) in
+                let same : d ≡ y = some-is d y (sym new-grown.admits ∙ (ap (λ (z : ℕ). detail_at new.trail z n) (sym is) ∙ admits)) in
+                subst (λ (z : Detail). IsTrue (is_detail_within z y)) asked (subst (λ (z : Detail). IsTrue (is_detail_within d z)) same (detail-same d));
             grown = new-grown;
             private = ap (λ (y : GateWord). y.is_private) (some-is new-grown.gate (gate_with (n + 1) true) (sym new-grown.is_open ∙ tree-same.gates v.used.maps ∙ copy.gate));
             moved = ap (λ (b : Bool). cond b (Some v.used.maps) (map_in x.trail o)) (eq-eqb o o refl);

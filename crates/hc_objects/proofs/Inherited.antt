@@ -8,25 +8,28 @@ use Rattle.hc_value.specs.declared.reply.Cause.{Cause}
 use Rattle.hc_value.specs.declared.reply.Cause.TheVariants.{Space}
 use Rattle.hc_heap.specs.Writes.{Trail}
 use Rattle.hc_heap.specs.Lawful.{Lawful}
-use Rattle.hc_heap.specs.Readings.{map_in, root_in}
+use Rattle.hc_heap.specs.Readings.{detail_in, map_in, root_in}
 use Rattle.hc_heap.specs.States.{View, HeapState}
 use Rattle.hc_descs.specs.Entries.{count_of}
 use Rattle.hc_tree.specs.declared.need.Need.{Need}
 use Rattle.hc_tree.specs.Copying.{copy_need}
 use Rattle.hc_tree.specs.Growth.{root_of, root_need}
 use Rattle.hc_tree.specs.Needs.{HasSpace, no_need, with_need}
+use Rattle.hc_facts.specs.Laws.{ConstantsStayOn}
 use Rattle.hc_table.specs.Changes.{Moved, Linked, reaches, reaches_among}
 use Rattle.hc_table.specs.World.{Object, World, object, props_at}
 use Rattle.hc_objects.specs.Becoming.{HasSpare, IsSpare}
 use Rattle.hc_objects.specs.Came.{AreMoves, Became, Effect, IsBecome, IsMarked, IsStill, Steps, marked_before, moves_to_link, world_of, HowBecame}
 use Rattle.hc_objects.specs.Changes.{KeptBut}
 use Rattle.hc_objects.specs.Inheriting.{IsLinkedNow, IsNamed, IsNamedNow, IsSpareFor, IsSpareOf, named_need, spared_named, spared_need}
-use Rattle.hc_objects.specs.Laws.{still-refl}
+use Rattle.hc_objects.specs.Laws.{steps-before, still-refl}
 use Rattle.hc_slots.specs.Meaning.{Dictionary, fast_props, prop_in}
 use Rattle.hc_objects.specs.Meaning.{cause_in, kept_of, world}
-use Rattle.hc_objects.specs.Modes.{Becomes, StaysFast, both, if_fast, link_need, need_by, proto_need, walk_need}
+use Rattle.hc_objects.specs.Modes.{IsWithin, Becomes, StaysFast, both, if_fast, link_need, need_by, proto_need, walk_need}
 use Rattle.hc_objects.specs.Rest.{AreLone, Marks, Relinks}
 use Rattle.hc_objects.specs.State.{ObjectsState, IsObjects}
+use Rattle.hc_objects.specs.Details.{DetailsAre, GetsNothing, LinkedDetails}
+use Rattle.hc_objects.proofs.Gets.{details-none}
 use Rattle.hc_objects.proofs.Adding.{map-is}
 use Rattle.hc_objects.proofs.Composing.{but-on, cause-but, no-cause, steps-on}
 use Rattle.hc_objects.proofs.Marking.{marks-relink, words-same}
@@ -202,6 +205,27 @@ module _ {P : Type 0} where
       lone = lone;
     }
 
+    -- a slow object that was named became one, after a map was made unstable
+    pub named-marked : ((p q r : P) (first second third : List Access) → went p first second q → went q second third r → went p first third r) → ConstantsStayOn → (a mid b : ObjectsState P) (o p : ℕ) (cause : Cause)
+        → cause_in a.kept p ≡ Some cause → IsMarked went a o mid → IsNamedNow went mid (Some p) b → IsNamedNow went a (Some p) b
+    named-marked law constants a mid b o p cause slow marked it =
+        let was : cause_in mid.kept p ≡ Some cause = ap (λ (kept : List (Option Dictionary)). cause_in kept p) marked.kept ∙ slow in
+        let now : cause_in b.kept p ≡ Some cause = subst (λ (x : Option Cause). Becomes x None (HasSpace mid.heap.view (proto_need mid.heap.view.trail p)) (cause_in b.kept p)) was it.mode in
+        record {
+          steps = steps-on went law constants a mid b Moved marked.steps it.steps;
+          mode = subst (λ (x : Option Cause). Becomes x None (HasSpace a.heap.view (proto_need a.heap.view.trail p)) (cause_in b.kept p)) (sym slow) now;
+          used = it.used
+              ∙ ap (λ (x : Option Cause). with_need (if_fast x (proto_need mid.heap.view.trail p)) mid.heap.view.used) now
+              ∙ ap (λ (s : Shape). with_need no_need s) marked.used
+              ∙ ap (λ (x : Option Cause). with_need (if_fast x (proto_need a.heap.view.trail p)) a.heap.view.used) (sym now);
+          named = it.named;
+          protos = λ q other. it.protos q other ∙ ap (λ r. r.is_proto) (marked.roots q);
+          roots = λ q. it.roots q ∙ ap (λ r. r.map) (marked.roots q);
+          maps = λ q other. it.maps q other ∙ marked.maps q;
+          others = λ q other. it.others q other ∙ ap (λ (kept : List (Option Dictionary)). kept_of kept q) marked.kept;
+          null = it.null ∙ marked.null;
+        }
+
     -- an object got another prototype, after the moves before it
     pub linked-effect : (first b c : ObjectsState P) (o : ℕ) (proto : Option ℕ) → AreMoves went first (moves_to_link first o proto) b → IsLinkedNow went b o proto c → Effect went first (Linked o proto) c
     linked-effect first b c o proto moves linked = record {
@@ -213,6 +237,7 @@ module _ {P : Type 0} where
         needs = linked.needs;
         protos = linked.protos;
         marks = linked.relinks;
+        details = linked.details;
       };
     }
 
@@ -235,6 +260,24 @@ module _ {P : Type 0} where
         subst (λ (c : Option Cause). AreMoves went a (marked_before c (cause_in a.kept p) o (Became p ∷ [])) b) (sym fast)
         (subst (λ (c : Option Cause). AreMoves went a (marked_before None c o (Became p ∷ [])) b) (sym slow) (mid, is, (b, become-of mid b p it how lawful lone, still-refl b)))
 
+    -- a fast object got it, and stayed fast
+    pub fast-linked : (a b c : ObjectsState P) (o : ℕ) (proto : Option ℕ) → IsStill a b → kept_of a.kept o ≡ None → HasSpace a.heap.view (link_need a.heap.view.trail o proto a.of_null)
+        → Steps went b (Linked o proto) c → IsWithin (link_need b.heap.view.trail o proto b.of_null) b.heap.view.used c.heap.view.used → ((q : ℕ) → (root_in c.heap.view.trail q).is_proto ≡ (root_in b.heap.view.trail q).is_proto) → c.kept ≡ b.kept
+        → Relinks b.heap.view.trail c.heap.view.trail o proto → LinkedDetails a.heap.view a.kept a.of_null o proto c.heap.view.trail → IsLinkedNow went a o proto c
+    fast-linked a b c o proto still fast space steps needs protos kept relinks details =
+        let same : c.kept ≡ a.kept = kept ∙ ap (λ (s : ObjectsState P). s.kept) still.is in
+        let now : cause_in c.kept o ≡ None = ap (λ (k : List (Option Dictionary)). cause_in k o) same ∙ no-cause a.kept o fast in
+        record {
+          steps = steps-before went a b c (Linked o proto) still steps;
+          mode = subst (λ (x : Option Cause). Becomes x None (HasSpace a.heap.view (link_need a.heap.view.trail o proto a.of_null)) (cause_in c.kept o)) (sym (no-cause a.kept o fast))
+              (subst (StaysFast (HasSpace a.heap.view (link_need a.heap.view.trail o proto a.of_null))) (sym now) (record { stays = (λ e. space, λ r. refl); leaves = tt }));
+          needs = subst (λ (s : ObjectsState P). IsWithin (link_need s.heap.view.trail o proto s.of_null) s.heap.view.used c.heap.view.used) still.is needs;
+          protos = λ q. protos q ∙ ap (λ (s : ObjectsState P). (root_in s.heap.view.trail q).is_proto) still.is;
+          others = subst (λ (k : List (Option Dictionary)). KeptBut o a.kept k) (sym same) (record { others = λ q other. refl; there = λ q other lt. lt });
+          relinks = subst (λ (s : ObjectsState P). Relinks s.heap.view.trail c.heap.view.trail o proto) still.is relinks;
+          details = details;
+        }
+
     -- a slow object got it
     pub slow-linked : (b c : ObjectsState P) (o : ℕ) (proto : Option ℕ) (d : Dictionary) → kept_of b.kept o ≡ Some d → map_in b.heap.view.trail o ≡ None → Steps went b (Linked o proto) c → c.heap ≡ b.heap → KeptBut o b.kept c.kept → cause_in c.kept o ≡ cause_in b.kept o → IsLinkedNow went b o proto c
     slow-linked b c o proto d slow none steps heap others same =
@@ -246,21 +289,29 @@ module _ {P : Type 0} where
           protos = λ q. ap (λ (h : HeapState P). (root_in h.view.trail q).is_proto) heap;
           others = others;
           relinks = marks-relink b.heap.view.trail c.heap.view.trail o proto (ap (λ (h : HeapState P). map_in h.view.trail o) heap ∙ none) (words-same b.heap.view.trail c.heap.view.trail o (ap (λ (h : HeapState P). h.view.trail) heap));
+          details = record {
+            walked = λ may. let f : None ≡ Some d = sym may.fast ∙ slow in let g : ⊥ = cc in absurd g;
+            nothing = λ no. details-none (λ f. ap (λ (h : HeapState P). detail_in h.view.trail f) heap);
+          };
         }
 
     -- a fast one left its map, and got it
-    pub left-linked : ((p q r : P) (first second third : List Access) → went p first second q → went q second third r → went p first third r) → (a b c : ObjectsState P) (o : ℕ) (proto : Option ℕ) (d : Dictionary)
+    pub left-linked : ((p q r : P) (first second third : List Access) → went p first second q → went q second third r → went p first third r) → ConstantsStayOn → (a b c : ObjectsState P) (o : ℕ) (proto : Option ℕ) (d : Dictionary)
         → kept_of a.kept o ≡ None → (HasSpace a.heap.view (link_need a.heap.view.trail o proto a.of_null) → ⊥) → d.cause ≡ Space
-        → Steps went a Moved b → cause_in b.kept o ≡ Some d.cause → KeptBut o a.kept b.kept → b.heap.view.used ≡ a.heap.view.used → ((q : ℕ) → root_in b.heap.view.trail q ≡ root_in a.heap.view.trail q) → Marks a.heap.view.trail b.heap.view.trail o → map_in b.heap.view.trail o ≡ None
+        → Steps went a Moved b → cause_in b.kept o ≡ Some d.cause → KeptBut o a.kept b.kept → b.heap.view.used ≡ a.heap.view.used → ((q : ℕ) → root_in b.heap.view.trail q ≡ root_in a.heap.view.trail q) → Marks a.heap.view.trail b.heap.view.trail o → map_in b.heap.view.trail o ≡ None → DetailsAre GetsNothing a.heap.view.trail b.heap.view.trail
         → Steps went b (Linked o proto) c → c.heap ≡ b.heap → KeptBut o b.kept c.kept → cause_in c.kept o ≡ cause_in b.kept o → IsLinkedNow went a o proto c
-    left-linked law a b c o proto d fast full space moved cause others used roots marks none steps heap later same =
+    left-linked law constants a b c o proto d fast full space moved cause others used roots marks none details steps heap later same =
         let now : cause_in c.kept o ≡ Some Space = same ∙ cause ∙ ap (λ (x : Cause). Some x) space in
         record {
-          steps = steps-on went law a b c (Linked o proto) moved steps;
+          steps = steps-on went law constants a b c (Linked o proto) moved steps;
           mode = subst (λ (x : Option Cause). Becomes x None (HasSpace a.heap.view (link_need a.heap.view.trail o proto a.of_null)) (cause_in c.kept o)) (sym (no-cause a.kept o fast))
               (subst (StaysFast (HasSpace a.heap.view (link_need a.heap.view.trail o proto a.of_null))) (sym now) (record { stays = (λ e. let f : ⊥ = cc in absurd f, λ r. absurd (full r)); leaves = refl }));
           needs = within-same (link_need a.heap.view.trail o proto a.of_null) a.heap.view.used c.heap.view.used (ap (λ (h : HeapState P). h.view.used) heap ∙ used);
           protos = λ q. ap (λ (h : HeapState P). (root_in h.view.trail q).is_proto) heap ∙ ap (λ r. r.is_proto) (roots q);
           others = but-on o a.kept b.kept c.kept others later;
           relinks = subst (λ (h : HeapState P). Relinks a.heap.view.trail h.view.trail o proto) (sym heap) (marks-relink a.heap.view.trail b.heap.view.trail o proto none marks);
+          details = record {
+            walked = λ may. absurd (full may.room);
+            nothing = λ no. subst (λ (h : HeapState P). DetailsAre GetsNothing a.heap.view.trail h.view.trail) (sym heap) details;
+          };
         }

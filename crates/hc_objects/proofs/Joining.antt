@@ -117,7 +117,7 @@ module _ (maps : MapsAreKept) (details : DetailsRise) (trees : TreesStay) (unuse
   fast : IsFast v.trail o m (gate_with n false)
   fast = record { is_open = is_open; holds = holds; private = sym shared }
 
-  details-same : (f : ℕ) → detail_in w.trail f ≡ detail_in v.trail f
+  pub details-same : (f : ℕ) → detail_in w.trail f ≡ detail_in v.trail f
   details-same f = same-after (λ (t : Trail). detail_in t f) (detail-by v o f) fitted.writes
 
   grown-there : IsGrown w.trail m c n (key_of p) by.detail

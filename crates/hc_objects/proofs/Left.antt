@@ -1,10 +1,11 @@
 -- A fast object that leaves its map for a dictionary, as what objects are before and after it.
-use Rattle.std.proofs.Common.{◌≡◌, ℕ, zero, suc, ◌<◌, ◌≤◌, Bool, true, false, cond, List, [], ◌∷◌, Option, Some, None, length, set, refl, sym, ap, ◌∙◌, subst, arith}
+use Rattle.std.proofs.Common.{◌≡◌, ℕ, zero, suc, ◌<◌, ◌≤◌, Bool, true, false, cond, List, [], ◌∷◌, Option, Some, None, length, set, refl, sym, ap, ◌∙◌, subst, arith, eq-eqb}
 use Rattle.hc_board.specs.Trail.{Access}
 use Rattle.hc_layout.specs.declared.words.MapBits.{MapBits}
 use Rattle.hc_heap.specs.Writes.{Trail, Bits, ObjectMap}
 use Rattle.hc_heap.specs.Readings.{bits_in, map_in, root_in}
-use Rattle.hc_heap.specs.Kept.{DetailsRise, UnusedSaysNothing}
+use Rattle.hc_heap.specs.Kept.{DetailsRise, FormsAreKept, StableIsKept, UnusedSaysNothing}
+use Rattle.hc_facts.specs.Laws.{HonestAfter, KeptIsCarried}
 use Rattle.hc_heap.specs.Frames.{extends-none}
 use Rattle.hc_heap.specs.States.{View, HeapState, IsHeap, Goes, one_load}
 use Rattle.hc_tree.specs.Growth.{marked, IsUnmoved}
@@ -16,7 +17,9 @@ use Rattle.hc_slots.specs.Meaning.{Dictionary, dictionary_object, object_shown}
 use Rattle.hc_objects.specs.Meaning.{kept_of, world}
 use Rattle.hc_slots.specs.Fast.{HasMap}
 use Rattle.hc_objects.specs.State.{IsObjects, tables_of}
+use Rattle.hc_objects.specs.Admitting.{FactsStay}
 use Rattle.hc_objects.specs.Changes.{Stepped}
+use Rattle.hc_objects.proofs.Facts.{none-facts}
 use Rattle.hc_objects.proofs.Adding.{map-is}
 use Rattle.hc_objects.proofs.Operations.{left-step}
 use Rattle.hc_objects.proofs.Owning.{open-used}
@@ -81,6 +84,13 @@ module _ (maps : MapsAreKept) (details : DetailsRise) (trees : TreesStay) (unuse
     pub left-sound : IsObjects new (set kept o (Some d)) of_null
     left-sound = stepped-sound maps details old new kept of_null h (Some d) o (dictionary_object d) there step (ap (λ (v : View). v.used.objects) is)
         (subst (λ (w : World). IsKept (with_world (tables_of old kept) w)) (sym still) h.sound)
+
+    gone : map_in new.trail o ≡ None
+    gone = ap (λ (v : View). map_in v.trail o) is ∙ ap (λ (b : Bool). cond b None (map_in (marked old.trail m) o)) (eq-eqb o o refl)
+
+    -- fields stay honest, and constants stay
+    pub left-facts : FormsAreKept → StableIsKept → HonestAfter → KeptIsCarried → FactsStay old.shape old.trail new.trail
+    left-facts forms stable honest carried = none-facts maps details forms old new kept of_null h o step.changed stable honest carried gone
 
 -- what no write of a map's bits changes is the same after a map was made unstable
 pub marked-same : {T : Type 0} (t : Trail) (m : ℕ) (reading : Trail → T) → ((b : MapBits) → reading (Bits m b ∷ t) ≡ reading t) → reading (marked t m) ≡ reading t

@@ -25,6 +25,7 @@ pub mod Adding
 pub mod Creating
 pub mod Slowed
 pub mod Left
+pub mod Gets
 pub mod Composing
 pub mod Adds
 pub mod OneMap
@@ -48,6 +49,12 @@ pub mod Relinked
 pub mod Linked
 pub mod Unstable
 pub mod Admitted
+pub mod Asked
+pub mod Facts
+pub mod Stores
+pub mod Wrote
 pub mod Inherited
 pub mod Spending
 pub mod Calm
+pub mod Keeping
+pub mod Mapped

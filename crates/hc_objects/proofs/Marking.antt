@@ -12,7 +12,7 @@ use Rattle.hc_layout.specs.declared.words.MapBits.{MapBits}
 use Rattle.hc_layout.specs.declared.words.RootWord.{RootWord}
 use Rattle.hc_value.specs.declared.prop.Prop.{Prop}
 use Rattle.hc_heap.specs.Writes.{Write, Trail, Bits, ObjectMap, Root}
-use Rattle.hc_heap.specs.Readings.{gate_in, bits_in, map_in, prototype_in, root_in}
+use Rattle.hc_heap.specs.Readings.{detail_in, gate_in, bits_in, map_in, prototype_in, root_in}
 use Rattle.hc_heap.specs.Kept.{Adds}
 use Rattle.hc_heap.specs.Frames.{adds-one, same-after}
 use Rattle.hc_heap.specs.States.{View}
@@ -23,6 +23,8 @@ use Rattle.hc_table.specs.Changes.{Did, Nothing, Moved, Created, Added, Wrote, R
 use Rattle.hc_objects.specs.Came.{MarksOf, HasOwnCopy, HowBecame, IsStill}
 use Rattle.hc_objects.specs.Changes.{Changed, Touches}
 use Rattle.hc_slots.specs.Slots.{FillsStore}
+use Rattle.hc_objects.specs.Details.{BecameGets, DetailsAre, GetsNothing}
+use Rattle.hc_objects.proofs.Gets.{details-none, details-on, never-now, slow-now}
 use Rattle.hc_objects.specs.Filling.{IsMoved}
 use Rattle.hc_objects.specs.Linking.{IsRelinked}
 use Rattle.hc_objects.specs.Privates.{IsGrownAlone, IsMovedToCopy}
@@ -268,18 +270,20 @@ module _ {P : Type 0} where
     marks = words-same a.heap.view.trail b.heap.view.trail p (ap (λ (s : ObjectsState P). s.heap.view.trail) still.is);
     own = λ m has shared. absurd (true≢false (sym is ∙ shared));
     owns = λ m has shared fast. absurd (true≢false (sym is ∙ shared));
+    details = never-now (cause_in b.kept p) (BecameGets a.heap.view p) (λ f d got. true≢false (sym is ∙ got.shared)) (details-none (λ f. ap (λ (s : ObjectsState P). detail_in s.heap.view.trail f) still.is));
   }
 
   pub how-before : (a b c : ObjectsState P) (p : ℕ) → IsStill a b → HowBecame b p c → HowBecame a p c
   how-before a b c p still h = by (subst (λ (s : ObjectsState P). HowBecame s p c) still.is h)
     where
       by : HowBecame (with_loads a b.heap.desk.loads) p c → HowBecame a p c
-      by k = record { marks = k.marks; own = k.own; owns = k.owns }
+      by k = record { marks = k.marks; own = k.own; owns = k.owns; details = k.details }
 
   -- a fast object left its map, and became one
-  pub how-left : (a b c : ObjectsState P) (p : ℕ) (cause : Cause) → map_in b.heap.view.trail p ≡ None → Marks a.heap.view.trail b.heap.view.trail p → c.heap.view.trail ≡ with_proto b.heap.view.trail p → cause_in c.kept p ≡ Some cause → HowBecame a p c
-  how-left a b c p cause none marks is slow = record {
+  pub how-left : (a b c : ObjectsState P) (p : ℕ) (cause : Cause) → map_in b.heap.view.trail p ≡ None → Marks a.heap.view.trail b.heap.view.trail p → DetailsAre GetsNothing a.heap.view.trail b.heap.view.trail → c.heap.view.trail ≡ with_proto b.heap.view.trail p → cause_in c.kept p ≡ Some cause → HowBecame a p c
+  how-left a b c p cause none marks details is slow = record {
     marks = subst (λ (t : Trail). Marks a.heap.view.trail t p) (sym is) (root-marks a.heap.view.trail b.heap.view.trail p none marks);
     own = λ m has shared. let f : None ≡ Some m = sym none ∙ sym (ap (λ (t : Trail). map_in t p) is) ∙ has in let g : ⊥ = cc in absurd g;
     owns = λ m has shared fast. let f : None ≡ Some cause = sym fast ∙ slow in let g : ⊥ = cc in absurd g;
+    details = slow-now (cause_in c.kept p) (BecameGets a.heap.view p) cause slow (subst (λ (t : Trail). DetailsAre GetsNothing a.heap.view.trail t) (sym is) (details-on details (λ f. refl)));
   }

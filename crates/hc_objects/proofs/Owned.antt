@@ -11,7 +11,7 @@ use Rattle.hc_layout.specs.declared.words.RootWord.{RootWord}
 use Rattle.hc_layout.specs.declared.words.StoreWord.{StoreWord}
 use Rattle.hc_heap.specs.Writes.{Write, Trail, Bits, ObjectMap, Root, Store, Slot}
 use Rattle.hc_heap.specs.Readings.{gate_in, prototype_in, bits_in, map_in, root_in, store_in, slot_in}
-use Rattle.hc_heap.specs.Lawful.{Lawful, LawfulObjectMap, IsOwnMap, HoldsEntries, word_from}
+use Rattle.hc_heap.specs.Lawful.{Lawful, LawfulObjectMap, IsOwnMap, HoldsEntries}
 use Rattle.hc_heap.specs.Kept.{Adds, DetailsRise, FormsAreKept, GatesAreOpen, UnusedSaysNothing}
 use Rattle.hc_heap.specs.Frames.{adds-on, same-after, goes-on-of, adds-one, adds-wider}
 use Rattle.hc_heap.specs.States.{View, IsHeap}
@@ -26,8 +26,12 @@ use Rattle.hc_table.specs.World.{Object}
 use Rattle.hc_objects.specs.Becoming.{IsOwned, with_proto}
 use Rattle.hc_objects.specs.Changes.{Touches, OpensNoRoot, Stepped}
 use Rattle.hc_slots.specs.Slots.{SlotsStay, IsIn, AreHandedOut}
-use Rattle.hc_slots.specs.Meaning.{Dictionary, fast_object, fast_props, is_extensible, object_shown, proto_of, slot_word}
+use Rattle.hc_slots.specs.Meaning.{Dictionary, fast_object, fast_props, is_extensible, object_shown, proto_of}
 use Rattle.hc_objects.specs.Meaning.{kept_of, world}
+use Rattle.hc_objects.proofs.Facts.{alike-rises, gone-constants, like-facts, words-same}
+use Rattle.hc_objects.specs.Admitting.{FactsStay}
+use Rattle.hc_facts.specs.Laws.{HonestAfter, KeptIsCarried, MovedIsCarried}
+use Rattle.hc_heap.specs.Kept.{StableIsKept}
 use Rattle.hc_objects.specs.Privates.{IsAlike}
 use Rattle.hc_slots.specs.Fast.{HasMap, IsFast}
 use Rattle.hc_objects.specs.State.{IsObjects}
@@ -89,12 +93,24 @@ module _ (old : View) (m : ℕ) (new : Trail) (adds : Adds (MakesMap old.used No
   pub copied-touches : (o : ℕ) → Adds (Touches old o) old.trail new
   copied-touches o = adds-on (map-marked old o old.trail m) (map-made old o old.used None (marked old.trail m) new adds)
 
-word-same : (old new : Trail) (first : Option ℕ) (k : ℕ) → ((s : ℕ) → slot_in new s ≡ slot_in old s) → word_from new first k ≡ word_from old first k
-word-same old new (Some x) k same = same (x + k)
-word-same old new None k same = refl
+-- fields stay honest, and constants stay
+module _ (maps : MapsAreKept) (details : DetailsRise) (forms : FormsAreKept) (stable : StableIsKept) (honest : HonestAfter) (carried : KeptIsCarried) (carries : MovedIsCarried)
+    (v x : View) (kept : List (Option Dictionary)) (null : Option ℕ) (h : IsObjects v kept null) (o : ℕ) (there : o < length kept) (fast : kept_of kept o ≡ None) (m : ℕ) (has : map_in v.trail o ≡ Some m) where
+  abbrev its : HasMap v.trail o
+  its = has-map v kept null h o there fast
 
-pub words-same : (old new : Trail) (o k : ℕ) → store_in new o ≡ store_in old o → ((s : ℕ) → slot_in new s ≡ slot_in old s) → slot_word new o k ≡ slot_word old o k
-words-same old new o k store slots = ap (λ (w : StoreWord). word_from new w.first k) store ∙ word-same old new (store_in old o).first k slots
+  is_open : gate_in v.trail m ≡ Some its.gate
+  is_open = subst (λ (y : ℕ). gate_in v.trail y ≡ Some its.gate) (some-is its.map m (sym its.is_map ∙ has)) its.fast.is_open
+
+  pub own-facts : IsOwned v x o m → FactsStay v.shape v.trail x.trail
+  own-facts it =
+      let n = count_of v.trail m in
+      let after : IsLater v.trail x.trail = is-later maps details v x o h.heap it.changed in
+      let alike : IsAlike x.trail v.used.maps m n it.proto = alike-copy true it.proto x.trail v.used.maps m n v.used.fields it.copy in
+      like-facts maps details forms stable honest carried carries v x kept null h o m v.used.maps n its.gate (gate_with n true) has is_open (sym (ap entries_in is_open)) it.changed it.moved
+      (gone-constants maps details forms v x kept null h o it.changed stable m v.used.maps has it.moved (λ is. let lt = it.younger in omega (arith, is, lt))) alike.gate refl
+      (λ k lt. words-same v.trail x.trail o k it.store it.slots) alike.keys
+      (λ k f was d lt field admits now. alike-rises v.trail x.trail after.details v.used.maps m k f was d (alike.details k lt) field admits now)
 
 -- an object with these words may have the copy, where it had the map
 module _ (old new : Trail) (after : IsLater old new) (o m c first : ℕ) (p : Option ℕ) (g : GateWord) (fast : IsFast old o m g) (copy : IsPrivateCopy true None p new c m (count_of old m) first)

@@ -13,6 +13,10 @@ use Rattle.hc_tree.specs.Kept.{MapsAreKept, TreesStay}
 use Rattle.hc_tree.specs.Tree.{IsTree, gate_with}
 use Rattle.hc_table.specs.Kept.{IsKept, with_world}
 use Rattle.hc_table.specs.World.{World}
+use Rattle.hc_heap.specs.Kept.{FormsAreKept, StableIsKept}
+use Rattle.hc_facts.specs.Laws.{HonestAfter, KeptIsCarried}
+use Rattle.hc_objects.specs.Admitting.{FactsStay}
+use Rattle.hc_objects.proofs.Facts.{none-facts}
 use Rattle.hc_objects.specs.Becoming.{HasBecome, with_proto}
 use Rattle.hc_objects.specs.Changes.{Touches, Stepped}
 use Rattle.hc_slots.specs.Meaning.{Dictionary, dictionary_object, object_shown}
@@ -121,6 +125,10 @@ module _ (maps : MapsAreKept) (details : DetailsRise) (v : View) (kept : List (O
 
   step : Stepped v marked (Some d) o (object_shown v.trail o (kept_of kept o) (map_in v.trail o))
   step = subst (λ (i : Option Dictionary). Stepped v marked (Some d) o (object_shown v.trail o i (map_in v.trail o))) (sym slow) slow-step
+
+  -- fields stay honest, and constants stay
+  pub slow-proto-facts : FormsAreKept → StableIsKept → HonestAfter → KeptIsCarried → FactsStay v.shape v.trail marked.trail
+  slow-proto-facts forms stable honest carried = none-facts maps details forms v marked kept of_null h o slow-step.changed stable honest carried none
 
   pub slow-proto-world : world (with_proto v.trail o) kept ≡ world v.trail kept
   slow-proto-world = same-world maps details v marked kept of_null h (Some d) o there step slow

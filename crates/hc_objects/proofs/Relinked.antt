@@ -1,21 +1,26 @@
 -- An object with a shared map comes to the one with another prototype and the same keys.
-use Rattle.std.proofs.Common.{◌≡◌, ℕ, ◌+◌, ◌<◌, ◌≤◌, Bool, false, cond, ◌∷◌, Option, Some, None, IfSome, refl, sym, ap, ◌∙◌, subst, arith, eq-eqb, true≢false}
+use Rattle.std.proofs.Common.{◌≡◌, ◌≢◌, ℕ, ◌+◌, ◌<◌, ◌≤◌, Bool, false, cond, ◌∷◌, Option, Some, None, IfSome, refl, sym, ap, ◌∙◌, subst, arith, eq-eqb, true≢false}
 use Rattle.std.specs.Prelude.{IsSomeAnd, IsTrue}
 use Rattle.hc_layout.specs.declared.shape.Shape.{Shape}
 use Rattle.hc_layout.specs.declared.shape.Region.TheVariants.{Maps}
 use Rattle.hc_layout.specs.declared.words.GateWord.{GateWord}
 use Rattle.hc_layout.specs.declared.words.MapBits.{MapBits}
 use Rattle.hc_layout.specs.declared.words.StoreWord.{StoreWord}
+use Rattle.hc_value.specs.Field.{in_place_of, join_of, joined_detail}
+use Rattle.hc_value.specs.declared.field.Detail.{Detail}
+use Rattle.hc_value.specs.declared.field.Rep.{Rep}
+use Rattle.hc_value.specs.declared.field.Rep.TheVariants.{HeapObject, Smi, Tagged, Wide}
 use Rattle.hc_heap.specs.Writes.{Trail, ObjectMap}
 use Rattle.hc_heap.specs.Readings.{gate_in, bits_in, map_in, prototype_in, root_in, store_in, slot_in}
-use Rattle.hc_heap.specs.Lawful.{Lawful, LawfulObjectMap, HoldsEntries, word_from}
+use Rattle.hc_heap.specs.Lawful.{Lawful, LawfulObjectMap, HoldsEntries, RisesTo, word_from}
 use Rattle.hc_heap.specs.Kept.{Adds, DetailsRise, GatesAreOpen, SetIsKept, UnusedSaysNothing}
 use Rattle.hc_heap.specs.Frames.{same-after, adds-on, adds-wider, goes-on-of}
 use Rattle.hc_heap.specs.States.{View, IsHeap, with_write}
-use Rattle.hc_tree.specs.Tree.{gate_with}
+use Rattle.hc_descs.specs.Entries.{detail_at, detail_of, field_at}
+use Rattle.hc_tree.specs.Tree.{AreNarrow, IsNarrow, IsTree, gate_with}
 use Rattle.hc_tree.specs.Frames.{reshapes-grow}
 use Rattle.hc_tree.specs.Kept.{MapsAreKept, TreesStay}
-use Rattle.hc_tree.specs.Walking.{WalkGets}
+use Rattle.hc_tree.specs.Walking.{WalkGets, both_details}
 use Rattle.hc_tree.specs.Growth.{marked, root_of, root_need}
 use Rattle.hc_objects.specs.State.{AreRoots}
 use Rattle.hc_slots.specs.Fast.{IsFast}
@@ -23,13 +28,14 @@ use Rattle.hc_objects.specs.Changes.{Changed, Touches}
 use Rattle.hc_slots.specs.Slots.{SlotsStay}
 use Rattle.hc_objects.specs.Linking.{GrowsTree, HasMapFor, IsRelinked, shared_need}
 use Rattle.hc_objects.specs.Modes.{IsWithin, both, walk_need}
+use Rattle.hc_objects.proofs.Asked.{detail-right, detail-same}
 use Rattle.hc_objects.proofs.Found.{grows-touches, map-grown, proto-grown, store-grown, slot-grown}
 use Rattle.hc_objects.proofs.Left.{marked-same}
 use Rattle.hc_objects.proofs.Likeness.{like-holds}
 use Rattle.hc_objects.proofs.Owning.{open-used}
 use Rattle.hc_slots.specs.Cases.{not-both, some-is, some-of}
 use Rattle.hc_objects.proofs.Marking.{bits-marked}
-use Rattle.hc_objects.proofs.Sound.{is-later, roots-stay}
+use Rattle.hc_objects.proofs.Sound.{below-or, is-later, roots-stay}
 use Rattle.hc_objects.proofs.Staying.{IsLater, later}
 use Rattle.hc_objects.proofs.Steps.{marked-unstable, move-tree}
 use Rattle.hc_objects.proofs.Touching.{map-marked, map-moved}
@@ -53,9 +59,49 @@ marked-roots maps details v m null heap then_heap roots =
     roots-stay v (marked v.trail m) 0 null on touches
     (λ k g none is shared parent. not-both (gate_in v.trail k) g none (sym (marked-same v.trail m (λ (t : Trail). gate_in t k) (λ b. refl)) ∙ is)) roots
 
+-- What the fields of the other map admit
+
+rep-place : (a b : Rep) → a ≢ Wide → b ≢ Wide → IsTrue (in_place_of b (join_of a b))
+rep-place Wide b one other = absurd (one refl)
+rep-place a Wide one other = absurd (other refl)
+rep-place Smi Smi one other = refl
+rep-place Smi HeapObject one other = refl
+rep-place Smi Tagged one other = refl
+rep-place HeapObject Smi one other = refl
+rep-place HeapObject HeapObject one other = refl
+rep-place HeapObject Tagged one other = refl
+rep-place Tagged Smi one other = refl
+rep-place Tagged HeapObject one other = refl
+rep-place Tagged Tagged one other = refl
+
+same-place : (a : Rep) → IsTrue (in_place_of a a)
+same-place Smi = refl
+same-place Wide = refl
+same-place HeapObject = refl
+same-place Tagged = refl
+
+rises-same : (d : Detail) → RisesTo d d
+rises-same d = record { in_place = same-place d.rep; within = detail-same d }
+
+rises-joined : (e d : Detail) → IsNarrow e → IsNarrow d → RisesTo d (joined_detail e d)
+rises-joined e d one other = record { in_place = rep-place e.rep d.rep one other; within = detail-right e d }
+
+-- the fields of an entry, and what they admit, are as they were
+marked-detail : (t : Trail) (m x k : ℕ) → detail_at (marked t m) x k ≡ detail_at t x k
+marked-detail t m x k = marked-same t m (λ (u : Trail). detail_at u x k) (λ b. refl)
+
+detail-narrow : (t : Trail) → AreNarrow t → (f : Option ℕ) (d : Detail) → detail_of t f ≡ Some d → IsNarrow d
+detail-narrow t narrow (Some f) d is = narrow f d is
+detail-narrow t narrow None d is = let n : ⊥ = cc in absurd n
+
+-- a field that admits what was joined, or what the map's own does
+joined-rises : (x : Option Detail) (was now : Detail) → ((e : Detail) → x ≡ Some e → IsNarrow e) → IsNarrow was → both_details x (Some was) ≡ Some now → RisesTo was now
+joined-rises (Some e) was now one other is = subst (λ (d : Detail). RisesTo was d) (some-is (joined_detail e was) now is) (rises-joined e was (one e refl) other)
+joined-rises None was now one other is = let n : ⊥ = cc in absurd n
+
 -- The object's words, from before its map was made unstable until the other map is there
 
-module _ (maps : MapsAreKept) (details : DetailsRise) (trees : TreesStay) (set : SetIsKept) (gates : GatesAreOpen) (unused : UnusedSaysNothing) (v w : View) (null then_null proto : Option ℕ) (o m c n : ℕ) (heap : IsHeap v)
+module _ (maps : MapsAreKept) (details : DetailsRise) (trees : TreesStay) (set : SetIsKept) (gates : GatesAreOpen) (unused : UnusedSaysNothing) (v w : View) (null then_null proto : Option ℕ) (o m c n : ℕ) (heap : IsHeap v) (tree : IsTree v.trail)
     (found : HasMapFor (marked_view v m) w null then_null m c n proto) (has : map_in v.trail o ≡ Some m) (is_open : gate_in v.trail m ≡ Some (gate_with n false)) (holds : HoldsEntries v.trail o m (gate_with n false)) (shared : (root_in v.trail o).is_proto ≡ false) where
   grown : Adds GrowsTree (marked v.trail m) w.trail
   grown = adds-wider (reshapes-grow v.used (WalkGets (marked v.trail m) found.end m found.count n v.used.fields)) found.writes
@@ -93,6 +139,15 @@ module _ (maps : MapsAreKept) (details : DetailsRise) (trees : TreesStay) (set :
 
   unstable-then : IsTrue (bits_in w.trail m).unstable
   unstable-then = (set v.shape (marked v.trail m) w.trail (goes-on-of v.shape grown lawful-then)).unstable m (marked-unstable v.trail m)
+
+  -- each field of the map admits what the other map's did
+  field-rises : (k : ℕ) (was now : Detail) → k < n → detail_at v.trail m k ≡ Some was → detail_at w.trail c k ≡ Some now → RisesTo was now
+  field-rises k was now lt is then = below-or k found.count (RisesTo was now)
+      (λ below. joined-rises (detail_at (marked v.trail m) found.end k) was now
+      (λ e at. detail-narrow v.trail tree.narrow (field_at v.trail found.end k) e (sym (marked-detail v.trail m found.end k) ∙ at))
+      (detail-narrow v.trail tree.narrow (field_at v.trail m k) was is)
+      (ap (both_details (detail_at (marked v.trail m) found.end k)) (sym (marked-detail v.trail m m k ∙ is)) ∙ (sym (found.joined k below) ∙ then)))
+      (λ past. subst (λ (d : Detail). RisesTo was d) (some-is was now (sym (marked-detail v.trail m m k ∙ is) ∙ (sym (found.made k past lt) ∙ then))) (rises-same was))
 
   -- the object may have the map
   pub relink-lawful : LawfulObjectMap w.shape w.trail o (Some c)
@@ -132,7 +187,9 @@ module _ (maps : MapsAreKept) (details : DetailsRise) (trees : TreesStay) (set :
       objects = found.objects;
       slots = found.slots;
       like = record { gate = found.like.gate; prototype = found.like.prototype; keys = found.like.keys };
+      rises = λ k was now lt is then. field-rises k was now lt is then;
       moved = ap (λ (b : Bool). cond b (Some c) (map_in w.trail o)) (eq-eqb o o refl);
+      unstable = unstable-then;
       protos = proto-same;
       store = store-same;
       words = slot-same;

@@ -1,5 +1,5 @@
 -- A fast object that loses its last property: it comes back to the parent of its map.
-use Rattle.std.proofs.Common.{◌≡◌, ◌≢◌, ℕ, zero, suc, ◌+◌, ◌<◌, ◌≤◌, Bool, true, false, not, cond, eq-eqb, List, ◌∷◌, Option, Some, None, length, set, IfSome, refl, sym, ap, ◌∙◌, subst, true≢false, add-one, arith}
+use Rattle.std.proofs.Common.{◌≡◌, ◌≢◌, ℕ, zero, suc, ◌+◌, ◌<◌, ◌≤◌, Bool, true, false, not, cond, eq-eqb, List, ◌∷◌, Option, Some, None, length, set, IfSome, refl, sym, ap, ◌∙◌, subst, true≢false, add-one, arith, inl}
 use Rattle.std.specs.Prelude.{IsSomeAnd, IsTrue, ◌&&◌, if◌then◌else◌, ⊤}
 use Rattle.std.proofs.Math.Nat.{le_refl}
 use Rattle.hc_layout.specs.declared.shape.Region.TheVariants.{Maps}
@@ -13,7 +13,8 @@ use Rattle.hc_value.specs.declared.reply.Cause.TheVariants.{Deleted}
 use Rattle.hc_layout.specs.declared.words.MapBits.{MapBits}
 use Rattle.hc_heap.specs.Writes.{Trail, Bits, ObjectMap}
 use Rattle.hc_heap.specs.Readings.{gate_in, parent_in, prototype_in, bits_in, map_in, root_in, store_in, detail_in}
-use Rattle.hc_heap.specs.Lawful.{LawfulObjectMap, HoldsEntries, IsFormOf}
+use Rattle.hc_heap.specs.Kept.{FormsAreKept, StableIsKept}
+use Rattle.hc_heap.specs.Lawful.{LawfulObjectMap, HoldsEntries, IsFormOf, RisesTo}
 use Rattle.hc_heap.specs.Frames.{adds-on, goes-on-of}
 use Rattle.hc_heap.specs.States.{View, IsHeap}
 use Rattle.hc_descs.specs.Entries.{key_at, field_at, entries_in, count_of, detail_of}
@@ -30,7 +31,11 @@ use Rattle.hc_objects.specs.Meaning.{cause_in, kept_of, world}
 use Rattle.hc_slots.specs.Fast.{HasMap, IsFast}
 use Rattle.hc_slots.specs.Slots.{IsIn, AreHandedOut}
 use Rattle.hc_objects.specs.State.{IsObjects, ObjectsState, tables_of}
+use Rattle.hc_facts.specs.Honest.{HasDatum, IsFilled}
+use Rattle.hc_facts.specs.Laws.{HonestAfter, KeptIsCarried, MovedIsCarried}
+use Rattle.hc_objects.specs.Admitting.{FactsStay}
 use Rattle.hc_objects.specs.Changes.{Changed, Stepped}
+use Rattle.hc_objects.proofs.Facts.{at-some, goes, gone-constants, one-constants, one-honest}
 use Rattle.hc_objects.proofs.Adding.{map-is}
 use Rattle.hc_objects.proofs.Composing.{all-stay, no-cause}
 use Rattle.hc_objects.proofs.Left.{marked-same}
@@ -185,6 +190,36 @@ module _ (laws : Laws) (old : View) (kept : List (Option Dictionary)) (of_null :
         let gates : g ≡ under.gate = some-is g under.gate (sym gate ∙ ap (gate_in back.trail) same ∙ gate-here) in
         ap (λ (x : GateWord). x.is_private) gates ∙ under.shared
 
+    -- fields stay honest, and constants stay
+    back-filled : MovedIsCarried → IsFilled old.trail back.trail o
+    back-filled carries m k f d datum admits =
+        let same : m ≡ under.parent = some-is m under.parent (sym datum.has ∙ map-here) in
+        let here : HasDatum back.trail o under.parent k f = subst (λ (y : ℕ). HasDatum back.trail o y k f) same datum in
+        let gates : here.gate ≡ under.gate = some-is here.gate under.gate (sym here.is_open ∙ gate-here) in
+        let lt : k < under.gate.entries = subst (λ (y : GateWord). k < y.entries) gates here.within in
+        let was : detail_in old.trail f ≡ Some d = sym (stays (λ (t : Trail). detail_in t f) (λ b. refl)) ∙ admits in
+        inl (carries old.trail back.trail o under.parent k f d here (record {
+          map = so.map;
+          gate = so.gate;
+          field = f;
+          detail = d;
+          had = so.is_map;
+          is_open = so.fast.is_open;
+          within = omega (arith, lt, under.entries);
+          same_key = under.child.entries.keys k lt ∙ sym (stays (λ (t : Trail). key_at t under.parent k) (λ b. refl));
+          is_field = under.child.entries.fields k lt ∙ (sym (stays (λ (t : Trail). field_at t under.parent k) (λ b. refl)) ∙ here.field);
+          admits = was;
+          rises = at-some (RisesTo d) (detail_in back.trail f) d admits (after.details f d was);
+        }) (words k lt))
+
+    back-facts : FormsAreKept → StableIsKept → HonestAfter → KeptIsCarried → MovedIsCarried → FactsStay old.shape old.trail back.trail
+    back-facts forms stable honest carried carries = record {
+      goes = goes laws.maps laws.details forms old back kept of_null h o changed;
+      constants = one-constants laws.maps laws.details forms old back kept of_null h o changed
+          (gone-constants laws.maps laws.details forms old back kept of_null h o changed stable so.map under.parent so.is_map map-here (λ is. let lt = under.child.younger in omega (arith, is, lt)));
+      honest = one-honest laws.maps laws.details forms old back kept of_null h o changed honest carried (back-filled carries);
+    }
+
     module _ (n : ℕ) (last : length (props_at (world old.trail kept) o) ≡ n + 1) where
       abbrev less : Object
       less = with_list (fast_object old.trail o so.map) (removed_at (fast_props old.trail o so.map) n)
@@ -247,6 +282,14 @@ module _ (laws : Laws) (old : View) (kept : List (Option Dictionary)) (of_null :
           (subst (λ (x : ℕ). IsTree (marked old.trail x)) (sym same) marked_tree)
           (subst (λ (x : ℕ). IsHeap (record old { trail = marked old.trail x })) (sym same) marked_heap)
           n last)
+
+      pub shrunk-facts : FormsAreKept → StableIsKept → HonestAfter → KeptIsCarried → MovedIsCarried → FactsStay old.shape old.trail new.trail
+      shrunk-facts forms stable honest carried carries =
+          subst (λ (v : View). FactsStay old.shape old.trail v.trail) (sym is_back)
+          (back-facts (subst IsHeap is_back heap)
+          (subst (λ (x : ℕ). IsTree (marked old.trail x)) (sym same) marked_tree)
+          (subst (λ (x : ℕ). IsHeap (record old { trail = marked old.trail x })) (sym same) marked_heap)
+          forms stable honest carried carries)
 
       -- the world is the one where the object lacks the property
       pub shrunk-world : world new.trail kept ≡ with_removed (world old.trail kept) o n

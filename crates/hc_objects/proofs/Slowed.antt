@@ -7,6 +7,7 @@ use Rattle.hc_value.specs.declared.prop.Kind.{Kind}
 use Rattle.hc_value.specs.declared.prop.Prop.{Prop}
 use Rattle.hc_heap.specs.Readings.{map_in}
 use Rattle.hc_heap.specs.Kept.{DetailsRise}
+use Rattle.hc_heap.specs.Lawful.{Lawful}
 use Rattle.hc_heap.specs.Frames.{goes-none}
 use Rattle.hc_heap.specs.States.{View}
 use Rattle.hc_tree.specs.Kept.{MapsAreKept}
@@ -17,6 +18,7 @@ use Rattle.hc_slots.specs.Meaning.{Dictionary, dictionary_object, object_shown}
 use Rattle.hc_objects.specs.Meaning.{kept_of, world}
 use Rattle.hc_objects.specs.State.{ObjectsState, IsKeptSo, IsObjects, tables_of}
 use Rattle.hc_objects.specs.Came.{Steps, world_of}
+use Rattle.hc_objects.proofs.Composing.{facts-none}
 use Rattle.hc_objects.proofs.Shown.{kept-item}
 use Rattle.hc_objects.specs.Changes.{Stepped}
 use Rattle.hc_objects.proofs.Stepping.{stepped-world, stepped-sound, slow-step}
@@ -87,11 +89,11 @@ module _ (v : View) (kept : List (Option Dictionary)) (of_null : Option ℕ) (h 
   may-do (Restrict frozen) may = tt
 
 -- nothing is stored: the words, the writer and the pace stay
-pub slow-steps : {P : Type 0} (went : P → List Access → List Access → P → Type 0) → ((p : P) (t : List Access) → went p t t p) → (a b : ObjectsState P) → a ≡ b → (did : Did) (kept : List (Option Dictionary))
+pub slow-steps : {P : Type 0} (went : P → List Access → List Access → P → Type 0) → ((p : P) (t : List Access) → went p t t p) → (a b : ObjectsState P) → a ≡ b → Lawful a.heap.view.shape a.heap.view.trail → (did : Did) (kept : List (Option Dictionary))
     → world a.heap.view.trail kept ≡ after did (world_of a) → Steps went b did (record a { kept = kept })
-slow-steps {P} went stays a b same did kept is =
+slow-steps {P} went stays a b same lawful did kept is =
     let then : ObjectsState P = record a { kept = kept } in
-    subst (λ (s : ObjectsState P). Steps went s did then) same (record { world = is; shape = refl; goes = goes-none a.heap.desk; went = stays a.heap.pace a.heap.desk.trail })
+    subst (λ (s : ObjectsState P). Steps went s did then) same (record { world = is; shape = refl; goes = goes-none a.heap.desk; went = stays a.heap.pace a.heap.desk.trail; keeps = facts-none a.heap.view.shape a.heap.view.trail lawful })
 
 -- the dictionary of an object
 pub item-is : (kept : List (Option Dictionary)) (o : ℕ) (x : Option Dictionary) (m : Option (MutBor Dictionary)) (r : MutBor Dictionary) → o < length kept → x ≡ get_or kept o x → option_copied_mut m ≡ x → m ≡ Some r → kept_of kept o ≡ Some r.now

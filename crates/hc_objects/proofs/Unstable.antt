@@ -4,18 +4,21 @@ use Rattle.std.proofs.Math.Nat.{le_refl}
 use Rattle.hc_layout.specs.declared.words.StoreWord.{StoreWord}
 use Rattle.hc_heap.specs.Writes.{Trail}
 use Rattle.hc_heap.specs.Readings.{gate_in, map_in, root_in, store_in, slot_in}
-use Rattle.hc_heap.specs.Kept.{DetailsRise, UnusedSaysNothing}
+use Rattle.hc_heap.specs.Kept.{DetailsRise, FormsAreKept, UnusedSaysNothing}
+use Rattle.hc_facts.specs.Laws.{HonestAfter, KeptIsCarried}
 use Rattle.hc_heap.specs.Frames.{goes-on-of}
 use Rattle.hc_heap.specs.States.{View, IsHeap}
 use Rattle.hc_tree.specs.Tree.{IsTree}
 use Rattle.hc_tree.specs.Kept.{MapsAreKept}
 use Rattle.hc_tree.specs.Growth.{marked}
-use Rattle.hc_slots.specs.Meaning.{Dictionary, object_shown}
+use Rattle.hc_slots.specs.Meaning.{Dictionary, object_shown, slot_word}
 use Rattle.hc_objects.specs.Meaning.{kept_of, world}
 use Rattle.hc_slots.specs.Slots.{AreHandedOut, IsIn}
 use Rattle.hc_slots.specs.Fast.{HasMap}
 use Rattle.hc_objects.specs.State.{IsObjects}
+use Rattle.hc_objects.specs.Admitting.{FactsStay}
 use Rattle.hc_objects.specs.Changes.{Stepped, WordsStay}
+use Rattle.hc_objects.proofs.Facts.{same-facts}
 use Rattle.hc_objects.proofs.Left.{marked-same}
 use Rattle.hc_objects.proofs.Owning.{alone-still}
 use Rattle.hc_objects.proofs.Prototypes.{same-world, same-sound}
@@ -70,3 +73,7 @@ module _ (maps : MapsAreKept) (details : DetailsRise) (unused : UnusedSaysNothin
 
   pub mark-sound : IsObjects (record v { trail = marked v.trail m }) kept null
   mark-sound = same-sound maps details v then kept null h None o there step fast refl
+
+  -- fields stay honest, and constants stay
+  pub mark-facts : FormsAreKept → HonestAfter → KeptIsCarried → FactsStay v.shape v.trail then.trail
+  mark-facts forms honest carried = same-facts maps details forms v then kept null h o step.changed honest carried map-same (λ k. marked-same v.trail m (λ (t : Trail). slot_word t o k) (λ b. refl))

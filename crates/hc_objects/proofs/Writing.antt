@@ -21,7 +21,7 @@ use Rattle.hc_slots.specs.Meaning.{Dictionary, held_in, fast_object, fast_props}
 use Rattle.hc_objects.specs.Meaning.{kept_of, world}
 use Rattle.hc_slots.specs.Fast.{HasMap}
 use Rattle.hc_objects.specs.State.{IsKeptSo, IsObjects, tables_of}
-use Rattle.hc_objects.specs.Changes.{Stepped}
+use Rattle.hc_objects.specs.Changes.{Changed, Stepped}
 use Rattle.hc_slots.specs.Entries.{EntryIs, entry-is}
 use Rattle.hc_objects.proofs.Places.{place-fast, kind-fast}
 use Rattle.hc_objects.proofs.Operations.{object-fast, written-step}
@@ -122,3 +122,6 @@ module _ (laws : Laws) (old : View) (kept : List (Option Dictionary)) (of_null :
           (subst (λ (w : World). IsKept (with_world (tables_of old kept) w))
           (ap (λ (y : Object). set (world old.trail kept) o (with_list y (held_at y.props i held))) is_so)
           (laws.changes (tables_of old kept) (Wrote o i held) h.sound (kind, range))))
+
+      pub write-changed : (new : View) → IsSomeAnd (store_in old.trail o).first (λ first. new ≡ with_write old (Slot (first + i) word)) → IsHeap new → Changed old new o
+      write-changed new e heap = (write-steps new e heap).changed

@@ -15,6 +15,8 @@ use Rattle.hc_tree.specs.Growth.{marked}
 use Rattle.hc_tree.specs.Needs.{HasSpace, with_need}
 use Rattle.hc_table.specs.World.{World, props_at}
 use Rattle.hc_table.specs.Changes.{Did, Nothing, Moved, Created, Added, Wrote, Reconfigured as Changed, Removed, Linked, Locked, Restricted, after}
+use Rattle.hc_objects.specs.Admitting.{FactsStay}
+use Rattle.hc_objects.specs.Details.{BecameGets, DetailsAre, DetailsOf, GetsNothing, IfFast}
 use Rattle.hc_objects.specs.Meaning.{cause_in, world}
 use Rattle.hc_objects.specs.Rest.{AreLone, Marks, MarksNew, Relinks}
 use Rattle.hc_objects.specs.State.{ObjectsState}
@@ -29,12 +31,14 @@ pub record IsStill {P : Type 0} (a b : ObjectsState P) : Type 0 where
   pub is : b ≡ record a { heap = record a.heap { desk = record a.heap.desk { loads = b.heap.desk.loads } } }
   pub loads : a.heap.desk.loads ≤ b.heap.desk.loads
 
--- something was done: the board and the shape stay, the trail and the met entries go on, and the pace went along
+-- something was done: the board and the shape stay, the trail and the met entries go on, the pace went along, and what fields
+-- say stays true
 pub record Steps {P : Type 0} (goes_with : P → List Access → List Access → P → Type 0) (a : ObjectsState P) (did : Did) (b : ObjectsState P) : Type 0 where
   pub world : world_of b ≡ after did (world_of a)
   pub shape : b.heap.view.shape ≡ a.heap.view.shape
   pub goes : Goes a.heap.desk b.heap.desk
   pub went : goes_with a.heap.pace a.heap.desk.trail b.heap.desk.trail b.heap.pace
+  pub keeps : FactsStay a.heap.view.shape a.heap.view.trail b.heap.view.trail
 
 -- Moves
 
@@ -68,11 +72,12 @@ pub record HasOwnCopy (old new : View) (p m : ℕ) : Type 0 where
   pub moved : map_in new.trail p ≡ Some old.used.maps
   pub copy : IsPrivateCopy true None proto new.trail old.used.maps m (count_of old.trail m) old.used.fields
 
--- how an object became a prototype: what it marks, that its map is stable, and the copy that a fast one has
+-- how an object became a prototype: what it marks, that its map is stable, the copy that a fast one has, and its fields
 pub record HowBecame {P : Type 0} (a : ObjectsState P) (p : ℕ) (b : ObjectsState P) : Type 0 where
   pub marks : Marks a.heap.view.trail b.heap.view.trail p
   pub own : (m : ℕ) → map_in b.heap.view.trail p ≡ Some m → (root_in a.heap.view.trail p).is_proto ≡ false → (bits_in b.heap.view.trail m).unstable ≡ false
   pub owns : (m : ℕ) → map_in a.heap.view.trail p ≡ Some m → (root_in a.heap.view.trail p).is_proto ≡ false → cause_in b.kept p ≡ None → HasOwnCopy a.heap.view b.heap.view p m
+  pub details : DetailsAre (IfFast (cause_in b.kept p) (BecameGets a.heap.view p)) a.heap.view.trail b.heap.view.trail
 
 -- an object became a prototype: where it was fast it has a private map, or is slow where there was no room for one; and no
 -- item was handed out but for that map
@@ -106,6 +111,7 @@ pub record HasLeft {P : Type 0} (goes_with : P → List Access → List Access �
   pub others : (q : ℕ) → q ≢ o → cause_in b.kept q ≡ cause_in a.kept q
   pub lawful : Lawful b.heap.view.shape b.heap.view.trail
   pub marks : Marks a.heap.view.trail b.heap.view.trail o
+  pub details : DetailsAre GetsNothing a.heap.view.trail b.heap.view.trail
 
 abbrev pub IsMove : {P : Type 0} → (P → List Access → List Access → P → Type 0) → ObjectsState P → Move → ObjectsState P → Type 0
 IsMove went a (Marked o) b = IsMarked went a o b
@@ -166,13 +172,15 @@ MarksOf (Locked o) old new = Marks old new o
 MarksOf (Restricted o frozen) old new = Marks old new o
 MarksOf _ old new = ⊤
 
--- an operation by itself: what it made of modes, no more items handed out than it needs, and what it made unstable
+-- an operation by itself: what it made of modes, no more items handed out than it needs, what it made unstable, and what became
+-- of details
 pub record Made {P : Type 0} (goes_with : P → List Access → List Access → P → Type 0) (a : ObjectsState P) (did : Did) (b : ObjectsState P) : Type 0 where
   pub steps : Steps goes_with a did b
   pub modes : Modes a did b
   pub needs : IsWithin (need_of a did) a.heap.view.used b.heap.view.used
   pub protos : ProtosStay a.heap.view.trail b.heap.view.trail
   pub marks : MarksOf did a.heap.view.trail b.heap.view.trail
+  pub details : DetailsOf did a.heap.view a.kept a.of_null b.heap.view.trail
 
 -- an operation, and the moves before it
 pub record Effect {P : Type 0} (goes_with : P → List Access → List Access → P → Type 0) (a : ObjectsState P) (did : Did) (b : ObjectsState P) : Type 0 where

@@ -2,7 +2,7 @@
 use Rattle.std.specs.Prelude.{◌≡◌, ℕ, ◌+◌, Option, Some, None, List, length}
 use Rattle.hc_board.specs.Trail.{Access}
 use Rattle.hc_value.specs.declared.reply.Cause.TheVariants.{Space}
-use Rattle.hc_heap.specs.Readings.{map_in, root_in}
+use Rattle.hc_heap.specs.Readings.{detail_in, map_in, root_in}
 use Rattle.hc_tree.specs.Growth.{root_of, root_need}
 use Rattle.hc_tree.specs.Needs.{HasSpace, with_need}
 use Rattle.hc_table.specs.Changes.{Created, Moved}
@@ -33,3 +33,4 @@ pub record IsEntered {P : Type 0} (goes_with : P → List Access → List Access
   pub others : KeptBut o a.kept b.kept
   pub none : map_in a.heap.view.trail o ≡ None
   pub marks : Marks a.heap.view.trail b.heap.view.trail o
+  pub details : (f : ℕ) → detail_in b.heap.view.trail f ≡ detail_in a.heap.view.trail f

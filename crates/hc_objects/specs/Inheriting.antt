@@ -10,6 +10,7 @@ use Rattle.hc_table.specs.World.{Object}
 use Rattle.hc_objects.specs.Becoming.{IsSpare}
 use Rattle.hc_objects.specs.Came.{Steps}
 use Rattle.hc_objects.specs.Changes.{KeptBut}
+use Rattle.hc_objects.specs.Details.{LinkedDetails}
 use Rattle.hc_slots.specs.Meaning.{Dictionary, dictionary_object}
 use Rattle.hc_objects.specs.Meaning.{cause_in, kept_of}
 use Rattle.hc_objects.specs.Modes.{Becomes, IsWithin, if_fast, link_need, proto_need}
@@ -80,3 +81,4 @@ pub record IsLinkedNow {P : Type 0} (goes_with : P → List Access → List Acce
   pub protos : (q : ℕ) → (root_in b.heap.view.trail q).is_proto ≡ (root_in a.heap.view.trail q).is_proto
   pub others : KeptBut o a.kept b.kept
   pub relinks : Relinks a.heap.view.trail b.heap.view.trail o proto
+  pub details : LinkedDetails a.heap.view a.kept a.of_null o proto b.heap.view.trail

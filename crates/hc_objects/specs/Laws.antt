@@ -21,6 +21,7 @@ module _ {P : Type 0} (went : P → List Access → List Access → P → Type 0
     shape = h.shape;
     goes = record { board = h.goes.board; trail = h.goes.trail; loads = omega (arith, le, h.goes.loads); met = h.goes.met };
     went = h.went;
+    keeps = h.keeps;
   }
 
   one-from : (a c : ObjectsState P) (o : ℕ) (given : Option Cause) (room : Type 0) (n : ℕ) → IsOne (with_loads a n) o given room c → IsOne a o given room c
@@ -57,6 +58,7 @@ module _ {P : Type 0} (went : P → List Access → List Access → P → Type 0
     needs = subst (λ k. IsWithin k a.heap.view.used c.heap.view.used) (needs-from a c did n) h.needs;
     protos = h.protos;
     marks = h.marks;
+    details = h.details;
   }
 
   become-from : (a c : ObjectsState P) (p n : ℕ) → a.heap.desk.loads ≤ n → IsBecome went (with_loads a n) p c → IsBecome went a p c
@@ -67,7 +69,7 @@ module _ {P : Type 0} (went : P → List Access → List Access → P → Type 0
     proto = h.proto;
     protos = h.protos;
     others = h.others;
-    how = record { marks = h.how.marks; own = h.how.own; owns = h.how.owns };
+    how = record { marks = h.how.marks; own = h.how.own; owns = h.how.owns; details = h.how.details };
     lawful = h.lawful;
     lone = h.lone;
   }
@@ -89,6 +91,7 @@ module _ {P : Type 0} (went : P → List Access → List Access → P → Type 0
     others = h.others;
     lawful = h.lawful;
     marks = h.marks;
+    details = h.details;
   }
 
   marked-from : (a c : ObjectsState P) (o n : ℕ) → a.heap.desk.loads ≤ n → IsMarked went (with_loads a n) o c → IsMarked went a o c
@@ -126,6 +129,7 @@ module _ {P : Type 0} (went : P → List Access → List Access → P → Type 0
     shape = h.shape;
     goes = record { board = h.goes.board; trail = h.goes.trail; loads = omega (arith, le, h.goes.loads); met = h.goes.met };
     went = h.went;
+    keeps = h.keeps;
   }
 
   one-upto : (a b : ObjectsState P) (o : ℕ) (given : Option Cause) (room : Type 0) (n : ℕ) → IsOne a o given room b → IsOne a o given room (with_loads b n)
@@ -150,6 +154,7 @@ module _ {P : Type 0} (went : P → List Access → List Access → P → Type 0
     needs = h.needs;
     protos = h.protos;
     marks = h.marks;
+    details = h.details;
   }
 
   pub made-after : (a b c : ObjectsState P) (did : Did) → Made went a did b → IsStill b c → Made went a did c
@@ -262,12 +267,12 @@ module _ {P : Type 0} (went : P → List Access → List Access → P → Type 0
   came-world a b (Locked o) h = effect-world a b (Locked o) h
   came-world a b (Restricted o frozen) h = effect-world a b (Restricted o frozen) h
 
-  move-shape : (a b : ObjectsState P) (move : Move) → IsMove went a move b → b.heap.view.shape ≡ a.heap.view.shape
+  pub move-shape : (a b : ObjectsState P) (move : Move) → IsMove went a move b → b.heap.view.shape ≡ a.heap.view.shape
   move-shape a b (Marked o) h = h.steps.shape
   move-shape a b (Became p) h = h.steps.shape
   move-shape a b (Left o cause) h = h.steps.shape
 
-  moves-shape : (a b : ObjectsState P) (moves : List Move) → AreMoves went a moves b → b.heap.view.shape ≡ a.heap.view.shape
+  pub moves-shape : (a b : ObjectsState P) (moves : List Move) → AreMoves went a moves b → b.heap.view.shape ≡ a.heap.view.shape
   moves-shape a b [] h = ap (λ (s : ObjectsState P). s.heap.view.shape) h.is
   moves-shape a b (move ∷ moves) h = moves-shape h.0 b moves h.2 ∙ move-shape a h.0 move h.1
 

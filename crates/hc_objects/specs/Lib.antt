@@ -2,6 +2,7 @@ pub mod Meaning
 pub mod State
 pub mod Changes
 pub mod Admitting
+pub mod Details
 pub mod Rest
 pub mod Filling
 pub mod Modes
@@ -15,3 +16,4 @@ pub mod Laws
 pub mod Creating
 pub mod Spent
 pub mod Slow
+pub mod Looks

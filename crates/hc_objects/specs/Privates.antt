@@ -16,6 +16,7 @@ use Rattle.hc_tree.specs.Copying.{IsPrivateCopy, More, copy_need}
 use Rattle.hc_tree.specs.Growth.{MakesMap, marked}
 use Rattle.hc_tree.specs.Needs.{no_need, with_need}
 use Rattle.hc_tree.specs.Tree.{IsNarrow, IsTree, gate_with, tagged_field}
+use Rattle.hc_objects.specs.Admitting.{AsksLast}
 use Rattle.hc_objects.specs.Changes.{Changed, IsGrown, OpensNoRoot, key_of}
 use Rattle.hc_slots.specs.Slots.{SlotsStay, slots_need, AreHandedOut, Owns}
 use Rattle.hc_slots.specs.Meaning.{held_in, slot_word}
@@ -65,6 +66,7 @@ pub record IsGrownAlone (old new : View) (o m n : ℕ) (p : Prop) : Type 0 where
   pub opens : OpensNoRoot old.trail new.trail
   pub detail : Detail
   pub narrow : IsNarrow detail
+  pub asks : AsksLast old.trail new.trail o n p
   pub grown : IsGrown new.trail m old.used.maps n (key_of p) detail
   pub private : IsTrue grown.gate.is_private
   pub moved : map_in new.trail o ≡ Some old.used.maps

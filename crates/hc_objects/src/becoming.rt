@@ -6,19 +6,23 @@ ghost use Rattle.hc_heap.specs.Readings.{map_in, root_in};
 ghost use Rattle.hc_heap.specs.States.{IsHeap, Goes};
 ghost use Rattle.hc_descs.specs.Entries.{count_of};
 ghost use Rattle.hc_table.specs.Changes.{Moved};
-ghost use Rattle.hc_tree.specs.Copying.{copy_need};
+ghost use Rattle.hc_tree.specs.Copying.{CopyGets, copy_need};
 ghost use Rattle.hc_tree.specs.Needs.{HasSpace, with_need};
 ghost use Rattle.hc_tree.specs.Tree.{IsTree};
 ghost use Rattle.hc_objects.specs.Becoming.{HasBecome, IsOwned, IsSettled, IsSpare, with_proto};
 ghost use Rattle.hc_objects.specs.Came.{HowBecame, Steps, IsStill, world_of};
 ghost use Rattle.hc_objects.specs.Changes.{KeptBut};
+ghost use Rattle.hc_objects.specs.Details.{BecameGets, DetailsAre};
 ghost use Rattle.hc_objects.specs.Meaning.{cause_in, kept_of};
 ghost use Rattle.hc_objects.specs.Modes.{Becomes, if_fast, proto_need};
 ghost use Rattle.hc_slots.specs.Fast.{HasMap};
 
 use crate::objects::Objects;
 use hc_dict::Dictionary;
-use hc_heap::{Heap, Pace, details_rise, forms_are_kept, gates_are_open, unused_says_nothing};
+use hc_facts::{constants_stay_on, honest_after, kept_is_carried, moved_is_carried};
+use hc_heap::{
+    Heap, Pace, details_rise, forms_are_kept, gates_are_open, stable_is_kept, unused_says_nothing,
+};
 use hc_layout::RootWord;
 use hc_slots::fast::map_of;
 use hc_tree::{has_space, maps_are_kept, mark_unstable, of_copy, private_copy, trees_stay};
@@ -57,6 +61,7 @@ fn take_own_map<P: Pace>(h: &mut Heap<P>, object: u32, map: u32)
     requires shared { (root_in h.old.view.trail object).is_proto ≡ false }
     requires space { HasSpace h.old.view (copy_need true None (count_of h.old.view.trail map)) }
     ensures owned { IsOwned h.old.view h.new.view object map }
+    ensures details { DetailsAre (CopyGets true None h.old.view.trail map (count_of h.old.view.trail map) h.old.view.used.fields) h.old.view.trail h.new.view.trail }
     ensures goes { Goes h.old.desk h.new.desk }
     ensures went { P.went h.old.pace h.old.desk.trail h.new.desk.trail h.new.pace }
 {
@@ -91,6 +96,10 @@ impl<P: Pace> Objects<P> {
     {
         maps_are_kept();
         details_rise();
+        forms_are_kept();
+        stable_is_kept();
+        honest_after();
+        kept_is_carried();
         set_is_proto(&mut self.heap, p);
     }
 
@@ -105,11 +114,17 @@ impl<P: Pace> Objects<P> {
         ensures used { self.new.heap.view.used ≡ with_need (proto_need self.old.heap.view.trail p) self.old.heap.view.used }
         ensures kept { self.new.kept ≡ self.old.kept }
         ensures null { self.new.of_null ≡ self.old.of_null }
+        ensures details { DetailsAre (BecameGets self.old.heap.view p) self.old.heap.view.trail self.new.heap.view.trail }
         ensures how { HowBecame self.old p self.new }
     {
         maps_are_kept();
         details_rise();
         unused_says_nothing();
+        forms_are_kept();
+        stable_is_kept();
+        honest_after();
+        kept_is_carried();
+        moved_is_carried();
         let map = map_of(&mut self.heap, p);
         take_own_map(&mut self.heap, p, map);
     }
@@ -155,6 +170,8 @@ impl<P: Pace> Objects<P> {
         ensures settled { IsSettled P.went self.old p self.new }
         ensures how { HowBecame self.old p self.new }
     {
+        constants_stay_on();
+        self.stands();
         if let Some(slow) = spare {
             self.leave_with(p, slow);
             self.mark_slow(p);

@@ -6,11 +6,13 @@ ghost use Rattle.hc_table.specs.Changes.{Reconfigured, Locked, Restricted, name_
 ghost use Rattle.hc_table.specs.World.{props_at};
 ghost use Rattle.hc_objects.specs.Rest.{Marks};
 ghost use Rattle.hc_objects.specs.Changes.{key_of};
+ghost use Rattle.hc_objects.specs.Details.{ChangedGets, DetailsAre};
 ghost use Rattle.hc_objects.specs.Meaning.{kept_of};
 ghost use Rattle.hc_objects.specs.Came.{IsStill, Made, Moves, Steps, world_of};
 
 use crate::objects::Objects;
 use hc_dict::Change;
+use hc_facts::constants_stay_on;
 use hc_heap::Pace;
 use hc_value::{Cause, Memory, Prop};
 
@@ -46,6 +48,7 @@ impl<P: Pace> Objects<P> {
         ensures used { self.new.heap.view.used ≡ self.old.heap.view.used }
         ensures protos { (q : ℕ) → (root_in self.new.heap.view.trail q).is_proto ≡ (root_in self.old.heap.view.trail q).is_proto }
         ensures marks { Marks self.old.heap.view.trail self.new.heap.view.trail o }
+        ensures details { slice_get (props_at (world_of self.old) o) i ≢ Some p → DetailsAre (ChangedGets self.old.heap.view.trail self.old.kept o i p) self.old.heap.view.trail self.new.heap.view.trail }
     {
         self.write_fast(o, i, p.held);
     }
@@ -77,6 +80,7 @@ impl<P: Pace> Objects<P> {
             self.reconfigure_fast(o, i, p);
             return Ok(());
         }
+        constants_stay_on();
         self.leave(o, Cause::Reconfigured)?;
         self.change_slow(o, Change::Put(i, p));
         Ok(())
@@ -90,6 +94,7 @@ impl<P: Pace> Objects<P> {
         ensures did { OnOk result (Made P.went self.old (Reconfigured o i p) self.new) }
         ensures moved { OnErr result (Moves P.went self.old self.new) }
     {
+        self.stands();
         if self.holds(o, i, &p) {
             return Ok(());
         }
@@ -106,6 +111,7 @@ impl<P: Pace> Objects<P> {
             self.change_slow(o, Change::Lock);
             return Ok(());
         }
+        constants_stay_on();
         self.leave(o, Cause::Reconfigured)?;
         self.change_slow(o, Change::Lock);
         Ok(())
@@ -121,6 +127,7 @@ impl<P: Pace> Objects<P> {
             self.change_slow(o, Change::Restrict(frozen));
             return Ok(());
         }
+        constants_stay_on();
         self.leave(o, Cause::Reconfigured)?;
         self.change_slow(o, Change::Restrict(frozen));
         Ok(())

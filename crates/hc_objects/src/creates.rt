@@ -13,7 +13,8 @@ ghost use Rattle.hc_objects.specs.Meaning.{cause_in};
 
 use crate::objects::Objects;
 use hc_dict::{Dict, Dictionary};
-use hc_heap::{Pace, details_rise, unused_says_nothing};
+use hc_facts::{constants_stay_on, honest_after, kept_is_carried};
+use hc_heap::{Pace, details_rise, forms_are_kept, unused_says_nothing};
 use hc_layout::Region;
 use hc_table::{TableFault, changes_keep};
 use hc_tree::{maps_are_kept, root, trees_stay};
@@ -56,6 +57,9 @@ impl<P: Pace> Objects<P> {
         details_rise();
         trees_stay();
         unused_says_nothing();
+        forms_are_kept();
+        honest_after();
+        kept_is_carried();
         let Ok(root) = root(&mut self.heap, proto, &mut self.of_null) else {
             return;
         };
@@ -74,6 +78,7 @@ impl<P: Pace> Objects<P> {
         ensures moved { IsErrOf result TableFault.Memory → Moves P.went self.old self.new }
     {
         unused_says_nothing();
+        constants_stay_on();
         if !self.heap.room(Region::Objects, 1) {
             return Err(TableFault::Full);
         }

@@ -1,15 +1,16 @@
 //! An object that gets one property more, and the map for it.
-ghost use Rattle.std.specs.Prelude.{◌≡◌, ◌+◌, ◌<◌, ◌↔◌, false, Some, IsTrue};
+ghost use Rattle.std.specs.Prelude.{ℕ, ◌≡◌, ◌+◌, ◌<◌, ◌↔◌, false, Some, IsTrue};
 ghost use Rattle.hc_layout.specs.declared.capacity.TheConstants.{MAX_FAST};
 ghost use Rattle.hc_layout.specs.declared.shape.Region.TheVariants.{Slots};
 ghost use Rattle.hc_heap.specs.Lawful.{HoldsEntries, IsKey};
-ghost use Rattle.hc_heap.specs.Readings.{bits_in, gate_in, map_in, root_in, store_in};
+ghost use Rattle.hc_heap.specs.Readings.{bits_in, detail_in, gate_in, map_in, root_in, store_in};
 ghost use Rattle.hc_heap.specs.States.{IsHeap, Goes, HasRoom};
 ghost use Rattle.hc_descs.specs.Entries.{LacksName};
 ghost use Rattle.hc_tree.specs.Growth.{IsUnmoved};
 ghost use Rattle.hc_tree.specs.Tree.{IsTree, IsProperKey, gate_with};
-ghost use Rattle.hc_objects.specs.Admitting.{IsGrownBy};
+ghost use Rattle.hc_objects.specs.Admitting.{AsksLast, IsGrownBy};
 ghost use Rattle.hc_objects.specs.Changes.{key_of};
+ghost use Rattle.hc_objects.specs.Details.{DetailsAre, GrownGets};
 ghost use Rattle.hc_objects.specs.Filling.{IsMoved, MayGrowBy, with_growth, with_slots};
 ghost use Rattle.hc_slots.specs.Slots.{slots_need, AreHandedOut};
 ghost use Rattle.hc_table.specs.Ranges.{IsHeldInRange};
@@ -38,6 +39,8 @@ fn move_to_child<P: Pace>(h: &mut Heap<P>, object: u32, map: u32, child: u32, n:
     requires handed { object < h.old.view.used.objects }
     requires room { HasRoom h.old.view Slots (slots_need n (store_in h.old.view.trail object).capacity) }
     ensures moved { IsMoved h.old.view h.new.view object map n p }
+    ensures comes { map_in h.new.view.trail object ≡ Some child }
+    ensures details { (f : ℕ) → detail_in h.new.view.trail f ≡ detail_in h.old.view.trail f }
     ensures used { h.new.view.used ≡ with_slots (store_in h.old.view.trail object) n h.old.view.used }
     ensures goes { Goes h.old.desk h.new.desk }
     ensures went { P.went h.old.pace h.old.desk.trail h.new.desk.trail h.new.pace }
@@ -69,6 +72,8 @@ pub(crate) fn grow_object<P: Pace>(h: &mut Heap<P>, object: u32, map: u32, n: u3
     requires handed { object < h.old.view.used.objects }
     ensures room { IsTrue result ↔ MayGrowBy h.old.view object map n (key_of p) }
     ensures moved { IsTrue result → IsMoved h.old.view h.new.view object map n p }
+    ensures details { IsTrue result → DetailsAre (GrownGets false h.old.view.trail h.old.view.used map n p) h.old.view.trail h.new.view.trail }
+    ensures asks { IsTrue result → AsksLast h.old.view.trail h.new.view.trail object n p }
     ensures used { IsTrue result → h.new.view.used ≡ with_growth h.old.view.trail object map n (key_of p) h.old.view.used }
     ensures still { result ≡ false → IsUnmoved h.old h.new }
     ensures goes { Goes h.old.desk h.new.desk }

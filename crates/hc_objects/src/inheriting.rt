@@ -12,7 +12,8 @@ ghost use Rattle.hc_objects.specs.Modes.{both, link_need};
 
 use crate::objects::Objects;
 use hc_dict::{Change, Dictionary};
-use hc_heap::{Pace, details_rise, gates_are_open, unused_says_nothing};
+use hc_facts::{constants_stay_on, honest_after, kept_is_carried};
+use hc_heap::{Pace, details_rise, forms_are_kept, gates_are_open, unused_says_nothing};
 use hc_slots::fast::map_of;
 use hc_tree::{
     NONE, Need, has_space, known_root, maps_are_kept, mark_unstable, of_copy, of_retarget, plus,
@@ -113,6 +114,9 @@ impl<P: Pace> Objects<P> {
         details_rise();
         trees_stay();
         unused_says_nothing();
+        forms_are_kept();
+        honest_after();
+        kept_is_carried();
         let map = map_of(&mut self.heap, o);
         mark_unstable(&mut self.heap, map);
     }
@@ -125,6 +129,7 @@ impl<P: Pace> Objects<P> {
         ensures none { proto ≡ None → self.new ≡ self.old }
         ensures how { IfSome proto (λ p. HowBecame self.old p self.new) }
     {
+        self.stands();
         if let Some(p) = proto {
             self.settle(p, spare);
         }
@@ -153,6 +158,7 @@ impl<P: Pace> Objects<P> {
         ensures moves { AreMoves P.went self.old (moves_to_link self.old o proto) self.new }
     {
         unused_says_nothing();
+        constants_stay_on();
         if self.names_slow(proto) {
             self.mark_map(o);
             self.settle_named(proto, spare);
@@ -191,6 +197,7 @@ impl<P: Pace> Objects<P> {
         requires spare { IsSpareFor (HasSpace self.old.heap.view (link_need self.old.heap.view.trail o proto self.old.of_null)) (object (world_of self.old) o) spare }
         ensures linked { IsLinkedNow P.went self.old o proto self.new }
     {
+        constants_stay_on();
         if let Some(slow) = spare {
             self.leave_with(o, slow);
             self.change_slow(o, Change::Link(proto));

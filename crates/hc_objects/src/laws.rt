@@ -1,14 +1,16 @@
 //! What follows of what was done, for proofs above. The functions do nothing: their contracts are laws.
-ghost use Rattle.std.specs.Prelude.{ℕ, ◌≡◌, ◌+◌};
+ghost use Rattle.std.specs.Prelude.{ℕ, ◌≡◌, ◌+◌, []};
 ghost use Rattle.hc_board.specs.States.{WriterState};
 ghost use Rattle.hc_heap.specs.Kept.{GoesOn};
 ghost use Rattle.hc_heap.specs.States.{View, IsHeap, IsDesk, Goes};
 ghost use Rattle.hc_table.specs.Changes.{Did};
+ghost use Rattle.hc_objects.specs.Admitting.{FactsStay, IsHonest};
 ghost use Rattle.hc_objects.specs.Came.{Came};
 ghost use Rattle.hc_objects.specs.Rest.{AreCalm};
 ghost use Rattle.hc_objects.specs.Spent.{IsSpent};
 ghost use Rattle.hc_objects.specs.State.{ObjectsState, IsObjects};
 
+use hc_facts::constants_stay_on;
 use hc_heap::{
     Pace, gates_are_open, positions_are_stores, positions_go_on, stores_are_writes,
     unused_says_nothing,
@@ -32,6 +34,15 @@ pub fn operations_spend_little<P: Pace>()
     ensures onward { (m n : ℕ) (a b c : ObjectsState P) → IsSpent m a b → IsSpent n b c → IsSpent (m + n) a c }
 {
     gates_are_open();
+}
+
+/// What fields say is true of the values of objects where there is none yet; it stays true over an operation, and over the moves
+/// that want of memory leaves, and constants stay.
+pub fn fields_stay_honest<P: Pace>()
+    ensures law { (a b : ObjectsState P) (did : Did) → IsObjects a.heap.view a.kept a.of_null → Came P.went a did b → FactsStay a.heap.view.shape a.heap.view.trail b.heap.view.trail }
+    ensures none { IsHonest [] }
+{
+    constants_stay_on();
 }
 
 /// Where no map was unstable that a prototype had, none is after an operation, nor after the moves that want of memory leaves.

@@ -10,12 +10,14 @@ ghost use Rattle.hc_tree.specs.Growth.{marked};
 ghost use Rattle.hc_tree.specs.Tree.{IsTree};
 ghost use Rattle.hc_objects.specs.Rest.{Marks};
 ghost use Rattle.hc_objects.specs.Changes.{KeptBut};
+ghost use Rattle.hc_objects.specs.Details.{DetailsAre, GetsNothing};
 ghost use Rattle.hc_objects.specs.Meaning.{cause_in, kept_of};
 ghost use Rattle.hc_objects.specs.Came.{Steps, IsStill, world_of};
 
 use crate::objects::Objects;
 use hc_dict::Dictionary;
-use hc_heap::{Heap, Pace, details_rise, unused_says_nothing};
+use hc_facts::{honest_after, kept_is_carried};
+use hc_heap::{Heap, Pace, details_rise, forms_are_kept, stable_is_kept, unused_says_nothing};
 use hc_slots::dictionary_of;
 use hc_slots::fast::map_of;
 use hc_tree::{maps_are_kept, mark_unstable, trees_stay};
@@ -63,12 +65,17 @@ impl<P: Pace> Objects<P> {
         ensures roots { (q : ℕ) → root_in self.new.heap.view.trail q ≡ root_in self.old.heap.view.trail q }
         ensures maps { (q : ℕ) → q ≢ o → map_in self.new.heap.view.trail q ≡ map_in self.old.heap.view.trail q }
         ensures marks { Marks self.old.heap.view.trail self.new.heap.view.trail o }
+        ensures details { DetailsAre GetsNothing self.old.heap.view.trail self.new.heap.view.trail }
         ensures gone { map_in self.new.heap.view.trail o ≡ None }
     {
         maps_are_kept();
         details_rise();
         trees_stay();
         unused_says_nothing();
+        forms_are_kept();
+        stable_is_kept();
+        honest_after();
+        kept_is_carried();
         let map = map_of(&mut self.heap, o);
         leave_map(&mut self.heap, o, map);
         self.kept[o as usize] = Some(slow);
@@ -87,6 +94,7 @@ impl<P: Pace> Objects<P> {
         ensures roots { (q : ℕ) → root_in self.new.heap.view.trail q ≡ root_in self.old.heap.view.trail q }
         ensures maps { (q : ℕ) → q ≢ o → map_in self.new.heap.view.trail q ≡ map_in self.old.heap.view.trail q }
         ensures marks { OnOk result (Marks self.old.heap.view.trail self.new.heap.view.trail o) }
+        ensures details { DetailsAre GetsNothing self.old.heap.view.trail self.new.heap.view.trail }
     {
         let slow = self.dictionary(o, cause)?;
         self.leave_with(o, slow);

@@ -9,6 +9,7 @@ mod growing;
 mod inheriting;
 mod laws;
 mod leaving;
+mod looks;
 mod objects;
 mod privates;
 mod properties;
@@ -20,5 +21,5 @@ mod slow;
 mod tables;
 mod writes;
 
-pub use laws::{operations_spend_little, prototypes_stay_calm, writes_go_on};
+pub use laws::{fields_stay_honest, operations_spend_little, prototypes_stay_calm, writes_go_on};
 pub use objects::Objects;

@@ -4,12 +4,13 @@ ghost use Rattle.hc_board.specs.States.{AllFit, TableId, counted};
 ghost use Rattle.hc_heap.specs.Readings.{map_in};
 ghost use Rattle.hc_heap.specs.States.{IsDesk, OnlyLoads, no_items};
 ghost use Rattle.hc_layout.specs.Shape.{IsShape, items_of};
+ghost use Rattle.hc_objects.specs.Looks.{AreFast};
 ghost use Rattle.hc_objects.specs.Meaning.{kept_of};
 ghost use Rattle.hc_objects.specs.State.{IsObjects};
 ghost use Rattle.hc_objects.specs.Came.{IsStill, world_of};
 
 use hc_dict::Dictionary;
-use hc_heap::{Heap, Pace};
+use hc_heap::{Heap, Pace, unused_says_nothing};
 use hc_layout::{Region, Shape};
 use hc_value::Memory;
 use std::alloc::Global;
@@ -54,13 +55,15 @@ impl<P: Pace> Objects<P> {
         })
     }
 
-    /// What holds of objects: the words and the dictionaries are sound, the words are those of the board's stores, and the
-    /// pace fits the board.
+    /// What holds of objects: the words and the dictionaries are sound, an object that has a map is fast with it, the words are
+    /// those of the board's stores, and the pace fits the board.
     pub fn stands(&self)
         ensures sound { IsObjects self.now.heap.view self.now.kept self.now.of_null }
+        ensures fast { AreFast self.now.heap.view.trail }
         ensures desk { IsDesk self.now.heap.view self.now.heap.desk }
         ensures fits { P.fits self.now.heap.pace self.now.heap.desk.board }
     {
+        unused_says_nothing();
         self.heap.stands();
     }
 

@@ -12,7 +12,7 @@ ghost use Rattle.hc_descs.specs.Entries.{IsOpenMap, LacksName, count_of};
 ghost use Rattle.hc_table.specs.Attributes.{IsProper};
 ghost use Rattle.hc_table.specs.Changes.{Added, Linked, IsThere, reaches};
 ghost use Rattle.hc_table.specs.World.{object, place_of, props_at};
-ghost use Rattle.hc_tree.specs.Copying.{MayBeLast, copied_count, copy_need};
+ghost use Rattle.hc_tree.specs.Copying.{CopyGets, MayBeLast, copied_count, copy_need};
 ghost use Rattle.hc_tree.specs.Growth.{IsUnmoved, MayBePrototype};
 ghost use Rattle.hc_tree.specs.Needs.{HasSpace};
 ghost use Rattle.hc_tree.specs.Tree.{IsNarrow, IsProperKey, IsTree, gate_with, tagged_field};
@@ -21,6 +21,7 @@ ghost use Rattle.hc_objects.specs.Needs.{IsFew};
 ghost use Rattle.hc_objects.specs.Came.{Steps, IsStill, world_of};
 ghost use Rattle.hc_objects.specs.Admitting.{held_detail};
 ghost use Rattle.hc_objects.specs.Changes.{key_of};
+ghost use Rattle.hc_objects.specs.Details.{AddedGets, DetailsAre, GetsNothing, GrownGets};
 ghost use Rattle.hc_objects.specs.Meaning.{kept_of};
 ghost use Rattle.hc_objects.specs.Modes.{IsWithin, add_need, link_need};
 ghost use Rattle.hc_objects.specs.Privates.{IsCopied, IsGrownAlone, IsMovedToCopy, private_need};
@@ -29,7 +30,10 @@ ghost use Rattle.hc_table.specs.Ranges.{IsHeldInRange};
 
 use crate::admitting::detail_for_held;
 use crate::objects::Objects;
-use hc_heap::{Heap, Pace, details_rise, forms_are_kept, gates_are_open, unused_says_nothing};
+use hc_facts::{honest_after, kept_is_carried, moved_is_carried, stored_is_given};
+use hc_heap::{
+    Heap, Pace, details_rise, forms_are_kept, gates_are_open, stable_is_kept, unused_says_nothing,
+};
 use hc_slots::fast::map_of;
 use hc_slots::{fill_next, held_word, slots_needed};
 use hc_table::changes_keep;
@@ -86,6 +90,7 @@ pub(crate) fn copy_map<P: Pace>(
     requires space { HasSpace h.old.view (copy_need fresh more (count_of h.old.view.trail map)) }
     ensures number { result ≡ h.old.view.used.maps }
     ensures copied { IsCopied fresh more proto h.old.view h.new.view map }
+    ensures details { DetailsAre (CopyGets fresh more h.old.view.trail map (count_of h.old.view.trail map) h.old.view.used.fields) h.old.view.trail h.new.view.trail }
     ensures goes { Goes h.old.desk h.new.desk }
     ensures went { P.went h.old.pace h.old.desk.trail h.new.desk.trail h.new.pace }
 {
@@ -114,6 +119,7 @@ fn grow_to_copy<P: Pace>(h: &mut Heap<P>, object: u32, map: u32, n: u32, p: Prop
     requires handed { object < h.old.view.used.objects }
     requires space { HasSpace h.old.view (private_need (key_of p) n (store_in h.old.view.trail object).capacity) }
     ensures grown { IsGrownAlone h.old.view h.new.view object map n p }
+    ensures details { DetailsAre (GrownGets true h.old.view.trail h.old.view.used map n p) h.old.view.trail h.new.view.trail }
     ensures goes { Goes h.old.desk h.new.desk }
     ensures went { P.went h.old.pace h.old.desk.trail h.new.desk.trail h.new.pace }
 {
@@ -149,6 +155,7 @@ fn grow_alone<P: Pace>(h: &mut Heap<P>, object: u32, map: u32, n: u32, p: Prop) 
     requires handed { object < h.old.view.used.objects }
     ensures room { IsTrue result ↔ HasSpace h.old.view (private_need (key_of p) n (store_in h.old.view.trail object).capacity) }
     ensures grown { IsTrue result → IsGrownAlone h.old.view h.new.view object map n p }
+    ensures details { IsTrue result → DetailsAre (GrownGets true h.old.view.trail h.old.view.used map n p) h.old.view.trail h.new.view.trail }
     ensures still { result ≡ false → IsUnmoved h.old h.new }
     ensures goes { Goes h.old.desk h.new.desk }
     ensures went { P.went h.old.pace h.old.desk.trail h.new.desk.trail h.new.pace }
@@ -173,6 +180,7 @@ fn link_alone<P: Pace>(h: &mut Heap<P>, object: u32, map: u32, n: u32, proto: Op
     requires proto { MayBePrototype h.old.view.used h.old.view.trail proto }
     ensures room { IsTrue result ↔ HasSpace h.old.view (copy_need false None n) }
     ensures linked { IsTrue result → IsMovedToCopy false h.old.view h.new.view object map n proto }
+    ensures details { IsTrue result → DetailsAre GetsNothing h.old.view.trail h.new.view.trail }
     ensures still { result ≡ false → IsUnmoved h.old h.new }
     ensures goes { Goes h.old.desk h.new.desk }
     ensures went { P.went h.old.pace h.old.desk.trail h.new.desk.trail h.new.pace }
@@ -210,12 +218,19 @@ impl<P: Pace> Objects<P> {
         ensures kept { self.new.kept ≡ self.old.kept }
         ensures null { self.new.of_null ≡ self.old.of_null }
         ensures marks { IsTrue result → Marks self.old.heap.view.trail self.new.heap.view.trail o }
+        ensures details { IsTrue result → DetailsAre (AddedGets self.old.heap.view o p) self.old.heap.view.trail self.new.heap.view.trail }
     {
         maps_are_kept();
         details_rise();
         trees_stay();
         unused_says_nothing();
         changes_keep();
+        forms_are_kept();
+        stable_is_kept();
+        honest_after();
+        kept_is_carried();
+        moved_is_carried();
+        stored_is_given();
         let map = map_of(&mut self.heap, o);
         let gate = self.heap.gate(map).unwrap();
         grow_alone(&mut self.heap, o, map, gate.entries, p)
@@ -238,11 +253,17 @@ impl<P: Pace> Objects<P> {
         ensures kept { self.new.kept ≡ self.old.kept }
         ensures null { self.new.of_null ≡ self.old.of_null }
         ensures relinks { IsTrue result → Relinks self.old.heap.view.trail self.new.heap.view.trail o proto }
+        ensures details { IsTrue result → DetailsAre GetsNothing self.old.heap.view.trail self.new.heap.view.trail }
     {
         maps_are_kept();
         details_rise();
         unused_says_nothing();
         changes_keep();
+        forms_are_kept();
+        stable_is_kept();
+        honest_after();
+        kept_is_carried();
+        moved_is_carried();
         let map = map_of(&mut self.heap, o);
         let gate = self.heap.gate(map).unwrap();
         link_alone(&mut self.heap, o, map, gate.entries, proto)

@@ -10,12 +10,14 @@ ghost use Rattle.hc_table.specs.World.{object, props_at, place_of};
 ghost use Rattle.hc_tree.specs.Needs.{HasSpace};
 ghost use Rattle.hc_objects.specs.Rest.{Marks};
 ghost use Rattle.hc_objects.specs.Changes.{KeptBut};
+ghost use Rattle.hc_objects.specs.Details.{DetailsAre, GetsNothing};
 ghost use Rattle.hc_objects.specs.Meaning.{cause_in, kept_of};
 ghost use Rattle.hc_objects.specs.Modes.{add_need};
 ghost use Rattle.hc_objects.specs.Came.{IsStill, Made, MayLeave, Moves, Steps, world_of};
 
 use crate::objects::Objects;
 use hc_dict::Change;
+use hc_facts::constants_stay_on;
 use hc_heap::Pace;
 use hc_layout::MAX_FAST;
 use hc_value::{Cause, Held, Memory, Prop};
@@ -62,7 +64,9 @@ impl<P: Pace> Objects<P> {
         ensures used { self.new.heap.view.used ≡ self.old.heap.view.used }
         ensures protos { (q : ℕ) → (root_in self.new.heap.view.trail q).is_proto ≡ (root_in self.old.heap.view.trail q).is_proto }
         ensures marks { OnOk result (Marks self.old.heap.view.trail self.new.heap.view.trail o) }
+        ensures details { DetailsAre GetsNothing self.old.heap.view.trail self.new.heap.view.trail }
     {
+        constants_stay_on();
         self.leave(o, cause)?;
         self.stands();
         self.add_slow(o, *p)

@@ -10,6 +10,7 @@ ghost use Rattle.hc_tree.specs.Tree.{IsTree, gate_with};
 ghost use Rattle.hc_table.specs.Changes.{IsThere, Linked, reaches};
 ghost use Rattle.hc_table.specs.World.{object};
 ghost use Rattle.hc_objects.specs.Came.{Steps, IsStill, world_of};
+ghost use Rattle.hc_objects.specs.Details.{HasRewalked, IsRewalked};
 ghost use Rattle.hc_objects.specs.Linking.{HasMapFor, IsRelinked, shared_need};
 ghost use Rattle.hc_objects.specs.Meaning.{kept_of};
 ghost use Rattle.hc_objects.specs.Rest.{Relinks};
@@ -17,7 +18,11 @@ ghost use Rattle.hc_objects.specs.Modes.{IsWithin, arrays_upto, both, link_need,
 ghost use Rattle.hc_objects.specs.State.{AreRoots};
 
 use crate::objects::Objects;
-use hc_heap::{Heap, Pace, details_rise, gates_are_open, set_is_kept, unused_says_nothing};
+use hc_facts::{honest_after, kept_is_carried, moved_is_carried};
+use hc_heap::{
+    Heap, Pace, details_rise, forms_are_kept, gates_are_open, set_is_kept, stable_is_kept,
+    unused_says_nothing,
+};
 use hc_slots::fast::map_of;
 use hc_table::changes_keep;
 use hc_tree::{
@@ -45,6 +50,7 @@ fn relink<P: Pace>(
     requires proto { MayBePrototype h.old.view.used h.old.view.trail proto }
     requires space { HasSpace h.old.view (shared_need h.old.view.trail n proto of_null.old) }
     ensures relinked { IsRelinked h.old.view h.new.view of_null.old of_null.new object map n proto }
+    ensures details { IsRewalked h.old.view of_null.old map proto h.new.view.trail }
     ensures goes { Goes h.old.desk h.new.desk }
     ensures went { P.went h.old.pace h.old.desk.trail h.new.desk.trail h.new.pace }
 {
@@ -81,6 +87,7 @@ fn link_object<P: Pace>(
     requires proto { MayBePrototype h.old.view.used h.old.view.trail proto }
     ensures room { IsTrue result ↔ HasSpace h.old.view (shared_need h.old.view.trail n proto of_null.old) }
     ensures relinked { IsTrue result → IsRelinked h.old.view h.new.view of_null.old of_null.new object map n proto }
+    ensures details { IsTrue result → IsRewalked h.old.view of_null.old map proto h.new.view.trail }
     ensures still { result ≡ false → IsUnmoved h.old h.new }
     ensures null { result ≡ false → of_null.new ≡ of_null.old }
     ensures goes { Goes h.old.desk h.new.desk }
@@ -113,6 +120,7 @@ impl<P: Pace> Objects<P> {
         ensures still { result ≡ false → IsStill self.old self.new }
         ensures kept { self.new.kept ≡ self.old.kept }
         ensures relinks { IsTrue result → Relinks self.old.heap.view.trail self.new.heap.view.trail o proto }
+        ensures details { IsTrue result → HasRewalked self.old.heap.view self.old.of_null o proto self.new.heap.view.trail }
     {
         maps_are_kept();
         details_rise();
@@ -120,6 +128,11 @@ impl<P: Pace> Objects<P> {
         unused_says_nothing();
         gates_are_open();
         changes_keep();
+        forms_are_kept();
+        stable_is_kept();
+        honest_after();
+        kept_is_carried();
+        moved_is_carried();
         let map = map_of(&mut self.heap, o);
         let gate = self.heap.gate(map).unwrap();
         link_object(

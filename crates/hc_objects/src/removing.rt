@@ -12,11 +12,15 @@ ghost use Rattle.hc_tree.specs.Tree.{IsTree};
 ghost use Rattle.hc_objects.specs.Rest.{Marks};
 ghost use Rattle.hc_objects.specs.Meaning.{kept_of};
 ghost use Rattle.hc_objects.specs.Modes.{if_deleted};
+ghost use Rattle.hc_objects.specs.Details.{DetailsAre, GetsNothing};
 ghost use Rattle.hc_objects.specs.Came.{IsStill, Made, Moves, Steps, world_of};
 
 use crate::objects::Objects;
 use hc_dict::Change;
-use hc_heap::{Heap, Pace, details_rise, gates_are_open, unused_says_nothing};
+use hc_facts::{constants_stay_on, honest_after, kept_is_carried, moved_is_carried};
+use hc_heap::{
+    Heap, Pace, details_rise, forms_are_kept, gates_are_open, stable_is_kept, unused_says_nothing,
+};
 use hc_slots::fast::map_of;
 use hc_table::changes_keep;
 use hc_tree::{maps_are_kept, mark_unstable, trees_stay};
@@ -70,6 +74,7 @@ impl<P: Pace> Objects<P> {
         ensures used { self.new.heap.view.used ≡ self.old.heap.view.used }
         ensures protos { (q : ℕ) → (root_in self.new.heap.view.trail q).is_proto ≡ (root_in self.old.heap.view.trail q).is_proto }
         ensures marks { Marks self.old.heap.view.trail self.new.heap.view.trail o }
+        ensures details { DetailsAre GetsNothing self.old.heap.view.trail self.new.heap.view.trail }
     {
         maps_are_kept();
         details_rise();
@@ -77,6 +82,11 @@ impl<P: Pace> Objects<P> {
         unused_says_nothing();
         gates_are_open();
         changes_keep();
+        forms_are_kept();
+        stable_is_kept();
+        honest_after();
+        kept_is_carried();
+        moved_is_carried();
         let map = map_of(&mut self.heap, o);
         let parent = self.heap.parent(map).unwrap().unwrap();
         move_to_parent(&mut self.heap, o, map, parent);
@@ -98,6 +108,7 @@ impl<P: Pace> Objects<P> {
             self.remove_last(o);
             return Ok(());
         }
+        constants_stay_on();
         self.leave(o, Cause::Deleted)?;
         self.change_slow(o, Change::Remove(i));
         Ok(())

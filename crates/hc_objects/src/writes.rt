@@ -1,41 +1,33 @@
 //! Changes of one object that is fast.
-ghost use Rattle.std.specs.Prelude.{ℕ, ◌≡◌, ◌≢◌, ◌<◌, ◌↔◌, true, false, IsTrue, None, Some, length};
+ghost use Rattle.std.specs.Prelude.{ℕ, ◌≡◌, ◌<◌, ◌↔◌, true, false, IsTrue, None, Some, length};
 ghost use Rattle.hc_layout.specs.declared.capacity.TheConstants.{MAX_FAST};
 ghost use Rattle.hc_value.specs.Prop.{kind_of};
-ghost use Rattle.hc_value.specs.declared.field.Constness.TheVariants.{Const, Mutable};
-ghost use Rattle.hc_heap.specs.Readings.{bits_in, map_in, root_in};
+ghost use Rattle.hc_heap.specs.Readings.{root_in};
 ghost use Rattle.hc_tree.specs.Needs.{HasSpace};
 ghost use Rattle.hc_table.specs.Attributes.{IsProper};
-ghost use Rattle.hc_table.specs.Changes.{Added, Moved, Wrote, kind_at};
+ghost use Rattle.hc_table.specs.Changes.{Added, Wrote, kind_at};
 ghost use Rattle.hc_table.specs.World.{object, props_at, place_of};
-ghost use Rattle.hc_objects.specs.Admitting.{IsAdmitted};
+ghost use Rattle.hc_objects.specs.Details.{AddedGets, DetailsAre, DetailsFirst, WroteGets};
 ghost use Rattle.hc_objects.specs.Rest.{Marks};
 ghost use Rattle.hc_objects.specs.Modes.{IsWithin, add_need};
 ghost use Rattle.hc_objects.specs.Meaning.{kept_of};
 ghost use Rattle.hc_table.specs.Ranges.{IsHeldInRange};
 ghost use Rattle.hc_objects.specs.Came.{Steps, IsStill, world_of};
 
-use crate::admitting::detail_for_held;
+use crate::admitting::ask_field;
 use crate::growing::grow_object;
 use crate::objects::Objects;
-use hc_heap::{Pace, details_rise, gates_are_open, unused_says_nothing};
+use hc_facts::{
+    honest_after, kept_is_carried, moved_is_carried, stored_is_given, storing_keeps_constants,
+};
+use hc_heap::{
+    Pace, details_rise, forms_are_kept, gates_are_open, stable_is_kept, unused_says_nothing,
+};
 use hc_slots::fast::map_of;
 use hc_slots::{held_word, put_slot};
 use hc_table::changes_keep;
-use hc_tree::{admit, maps_are_kept, trees_stay};
-use hc_value::{Constness, Held, Prop};
-
-// A field stays constant only where what it is to hold is held already.
-fn constness_for(was: &Held, held: &Held) -> Constness
-    ensures same { result ≡ Const → was.now ≡ held.now }
-    ensures other { result ≡ Mutable → was.now ≢ held.now }
-{
-    if *was == *held {
-        Constness::Const
-    } else {
-        Constness::Mutable
-    }
-}
+use hc_tree::{maps_are_kept, trees_stay};
+use hc_value::{Held, Prop};
 
 impl<P: Pace> Objects<P> {
     // Has the property of a fast object at a place hold something else of its kind. Its field admits that first, and stays
@@ -51,45 +43,8 @@ impl<P: Pace> Objects<P> {
         ensures used { self.new.heap.view.used ≡ self.old.heap.view.used }
         ensures protos { (q : ℕ) → (root_in self.new.heap.view.trail q).is_proto ≡ (root_in self.old.heap.view.trail q).is_proto }
         ensures marks { Marks self.old.heap.view.trail self.new.heap.view.trail o }
-    {
-        let was = self.prop_at(o, i);
-        let constness = constness_for(&was.held, &held);
-        let again = held;
-        self.admit_held(o, i, held, constness);
-        self.store_held(o, i, again);
-    }
-
-    // Has the field of a fast object's property admit what is to be held there.
-    fn admit_held(&mut self, o: u32, i: u32, held: Held, constness: Constness)
-        requires object { o < length (world_of self.old) }
-        requires fast { kept_of self.old.kept o ≡ None }
-        requires kind { kind_at (props_at (world_of self.old) o) i ≡ Some (kind_of held) }
-        ensures admitted { IsAdmitted self.old.heap.view self.new.heap.view o i held constness }
-        ensures steps { Steps P.went self.old Moved self.new }
-        ensures kept { self.new.kept ≡ self.old.kept }
-        ensures null { self.new.of_null ≡ self.old.of_null }
-    {
-        maps_are_kept();
-        details_rise();
-        unused_says_nothing();
-        let map = map_of(&mut self.heap, o);
-        let detail = detail_for_held(&mut self.heap, held, constness);
-        admit(&mut self.heap, map, i, detail);
-    }
-
-    // Stores what a property of a fast object is to hold, and nothing else.
-    fn store_held(&mut self, o: u32, i: u32, held: Held)
-        requires object { o < length (world_of self.old) }
-        requires fast { kept_of self.old.kept o ≡ None }
-        requires kind { kind_at (props_at (world_of self.old) o) i ≡ Some (kind_of held) }
-        requires range { IsHeldInRange held }
-        ensures steps { Steps P.went self.old (Wrote o i held) self.new }
-        ensures kept { self.new.kept ≡ self.old.kept }
-        ensures null { self.new.of_null ≡ self.old.of_null }
-        ensures used { self.new.heap.view.used ≡ self.old.heap.view.used }
-        ensures roots { (q : ℕ) → root_in self.new.heap.view.trail q ≡ root_in self.old.heap.view.trail q }
-        ensures bits { (m : ℕ) → bits_in self.new.heap.view.trail m ≡ bits_in self.old.heap.view.trail m }
-        ensures maps { (q : ℕ) → map_in self.new.heap.view.trail q ≡ map_in self.old.heap.view.trail q }
+        ensures order { DetailsFirst self.old.heap.view.trail self.new.heap.view.trail }
+        ensures details { DetailsAre (WroteGets self.old.heap.view.trail self.old.kept o i held) self.old.heap.view.trail self.new.heap.view.trail }
     {
         maps_are_kept();
         details_rise();
@@ -97,7 +52,14 @@ impl<P: Pace> Objects<P> {
         unused_says_nothing();
         gates_are_open();
         changes_keep();
-        let word = held_word(held);
+        forms_are_kept();
+        honest_after();
+        kept_is_carried();
+        stored_is_given();
+        storing_keeps_constants();
+        let again = held;
+        ask_field(&mut self.heap, o, i, held);
+        let word = held_word(again);
         put_slot(&mut self.heap, o, i, word);
     }
 
@@ -119,12 +81,19 @@ impl<P: Pace> Objects<P> {
         ensures kept { self.new.kept ≡ self.old.kept }
         ensures null { self.new.of_null ≡ self.old.of_null }
         ensures marks { IsTrue result → Marks self.old.heap.view.trail self.new.heap.view.trail o }
+        ensures details { IsTrue result → DetailsAre (AddedGets self.old.heap.view o p) self.old.heap.view.trail self.new.heap.view.trail }
     {
         maps_are_kept();
         details_rise();
         trees_stay();
         unused_says_nothing();
         changes_keep();
+        forms_are_kept();
+        stable_is_kept();
+        honest_after();
+        kept_is_carried();
+        moved_is_carried();
+        stored_is_given();
         let map = map_of(&mut self.heap, o);
         let gate = self.heap.gate(map).unwrap();
         grow_object(&mut self.heap, o, map, gate.entries, p)

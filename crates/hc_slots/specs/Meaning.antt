@@ -1,8 +1,10 @@
 -- What the words of an object with a map, and the dictionary of a slow one, say of it.
-use Rattle.std.specs.Prelude.{ℕ, Bool, true, not, Option, Some, None, List}
+use Rattle.std.specs.Prelude.{◌≡◌, ◌≢◌, ◌⊎◌, ℕ, Bool, true, not, Option, Some, None, List}
 use Rattle.hc_layout.specs.declared.words.GateWord.{GateWord}
 use Rattle.hc_value.specs.declared.value.Value.{Value}
 use Rattle.hc_value.specs.declared.value.Value.TheVariants.{Undefined}
+use Rattle.hc_value.specs.declared.field.Constness.{Constness}
+use Rattle.hc_value.specs.declared.field.Constness.TheVariants.{Const, Mutable}
 use Rattle.hc_value.specs.declared.field.Rep.{Rep}
 use Rattle.hc_value.specs.declared.field.Rep.TheVariants.{Smi, Wide, HeapObject, Tagged}
 use Rattle.hc_value.specs.declared.field.Detail.{Detail}
@@ -42,6 +44,12 @@ held_in DataProp Wide w = datum_of (integer_of (unwide_of w))
 held_in DataProp Smi w = datum_of (untagged_of w)
 held_in DataProp HeapObject w = datum_of (untagged_of w)
 held_in DataProp Tagged w = datum_of (untagged_of w)
+
+-- the constness that a field of a constness is asked for, where so much is held and this is to be: a constant field stays so
+-- exactly where this is held already
+abbrev pub IsConstnessFor : Constness → Held → Held → Constness → Type 0
+IsConstnessFor so_far was held Const = was ≡ held
+IsConstnessFor so_far was held Mutable = (so_far ≡ Mutable) ⊎ (was ≢ held)
 
 -- a property without a key, which no open map has
 abbrev pub no_property : Prop

@@ -1,5 +1,5 @@
 //! What a slot holds, as its word.
-ghost use Rattle.std.specs.Prelude.{◌≡◌};
+ghost use Rattle.std.specs.Prelude.{ℕ, ◌≡◌};
 ghost use Rattle.hc_heap.specs.Lawful.{IsFormOf};
 ghost use Rattle.hc_slots.specs.Meaning.{held_in, datum_of, pair_of};
 ghost use Rattle.hc_table.specs.Ranges.{IsHeldInRange};
@@ -15,6 +15,7 @@ pub fn held_word(held: Held) -> u64
     requires range { IsHeldInRange held }
     ensures form { IsFormOf (kind_of held) Tagged result }
     ensures holds { held_in (kind_of held) Tagged result ≡ held }
+    ensures alone { (w : ℕ) → IsFormOf (kind_of held) Tagged w → held_in (kind_of held) Tagged w ≡ held → w ≡ result }
 {
     match held {
         Held::Datum(value) => tagged(value),

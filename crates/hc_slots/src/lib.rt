@@ -9,6 +9,7 @@ mod slots;
 mod stores;
 
 pub use dictionary::dictionary_of;
+pub use entries::constness_for;
 pub use held::held_word;
 pub use slots::put_slot;
 pub use stores::{fill_next, slots_needed};

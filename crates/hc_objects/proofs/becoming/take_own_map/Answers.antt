@@ -1,4 +1,4 @@
-use Rattle.std.proofs.Common.{◌≡◌, ℕ, ◌<◌, ◌≤◌, ◌∷◌, Some, IfSome, ap, sym, ◌∙◌, subst}
+use Rattle.std.proofs.Common.{◌≡◌, ℕ, ◌<◌, ◌≤◌, ◌∷◌, true, None, Some, IfSome, ap, sym, ◌∙◌, subst}
 use Rattle.std.specs.Prelude.{IsSome}
 use Rattle.hc_layout.specs.declared.capacity.TheConstants.{MAX_FAST}
 use Rattle.hc_heap.specs.Lawful.{IsOwnMap}
@@ -9,6 +9,10 @@ use Rattle.hc_descs.specs.Entries.{count_of}
 use Rattle.hc_tree.specs.Growth.{MayBePrototype, marked}
 use Rattle.hc_tree.specs.Tree.{IsTree}
 use Rattle.hc_objects.specs.Becoming.{with_proto}
+use Rattle.hc_heap.specs.Readings.{detail_in}
+use Rattle.hc_tree.specs.Copying.{CopyGets}
+use Rattle.hc_tree.specs.Details.{DetailsAre}
+use Rattle.hc_objects.proofs.Gets.{details-on, marked-copy}
 use Rattle.hc_objects.proofs.Owned.{IsCopied, copied-by, count-marked, few-entries, has-proto, has-there, may-proto, marked-proto, own-done, own-lawful, own-now, own-tree}
 use Rattle.hc_objects.proofs.becoming.take_own_map.Goals as goal
 
@@ -99,3 +103,17 @@ returns-clause-owned g c =
     let last : c.set_is_proto.new.h.view ≡ record w { trail = with_proto (ObjectMap o (Some c.in-Ok.copy) ∷ w.trail) o } =
     c.set_is_proto.ensures.view ∙ ap (λ (x : View). let y : View = record x { trail = with_proto x.trail o } in y) c.set_object_map.ensures.view in
     own-done c.maps_are_kept.ensures.law c.details_rise.ensures.law c.trees_stay.ensures.law c.unused_says_nothing.ensures.law v c.stands.ensures.heap o m c.requires.fast c.requires.has c.requires.shared w c.in-Ok.copy c.unwrap-proto.result it c.set_is_proto.new.h.view last c.set_is_proto.ensures.tree c.set_is_proto.ensures.heap
+
+pub returns-clause-details : goal.returns-clause-details
+returns-clause-details g c =
+    let v = c.args.h.now.view in
+    let o = c.args.object in
+    let m = c.args.map in
+    let w = c.private_copy.new.h.view in
+    let read : c.proto.new.self.view ≡ v = ap (λ (s : HeapState g.row.P.Denot). s.view) c.proto.ensures.new in
+    let is : c.mark_unstable.new.h.view ≡ record v { trail = marked v.trail m } = c.mark_unstable.ensures.view ∙ ap (λ (w : View). let x : View = record w { trail = marked w.trail m } in x) read in
+    let last : c.set_is_proto.new.h.view ≡ record w { trail = with_proto (ObjectMap o (Some c.in-Ok.copy) ∷ w.trail) o } =
+    c.set_is_proto.ensures.view ∙ ap (λ (x : View). let y : View = record x { trail = with_proto x.trail o } in y) c.set_object_map.ensures.view in
+    details-on (marked-copy v.trail w.trail m v.used.fields true None
+    (subst (λ (x : View). DetailsAre (CopyGets true None x.trail m (count_of x.trail m) x.used.fields) x.trail w.trail) is c.in-Ok.ensures.details))
+    (λ f. ap (λ (x : View). detail_in x.trail f) last)

@@ -1,10 +1,10 @@
-use Rattle.std.proofs.Common.{◌<◌, ℕ, Option, ap, ◌∙◌, sym, subst, IfSome}
+use Rattle.std.proofs.Common.{◌≡◌, ◌<◌, ℕ, Bool, cond, eq-eqb, refl, Option, Some, ap, ◌∙◌, sym, subst, IfSome}
 use Rattle.std.specs.Prelude.{IsTrue}
 use Rattle.hc_layout.specs.declared.shape.Shape.{Shape}
-use Rattle.hc_heap.specs.Readings.{bits_in}
+use Rattle.hc_heap.specs.Readings.{bits_in, detail_in, map_in}
 use Rattle.hc_heap.specs.States.{View, IsHeap}
 use Rattle.hc_objects.specs.Filling.{IsMoved}
-use Rattle.hc_objects.proofs.Joining.{move-lawful, move-made}
+use Rattle.hc_objects.proofs.Joining.{details-same, move-lawful, move-made}
 use Rattle.hc_objects.proofs.growing.move_to_child.Goals as goal
 
 pub fill_next-requires-clause-unstable : goal.fill_next-requires-clause-unstable
@@ -26,3 +26,14 @@ pub returns-clause-used : goal.returns-clause-used
 returns-clause-used g c =
     let fitted = c.fill_next.ensures.fitted in
     ap (λ (w : View). w.used) c.set_object_map.ensures.view ∙ fitted.used ∙ ap (λ (k : ℕ). let s : Shape = record c.args.h.now.view.used { slots = k } in s) fitted.more
+
+pub returns-clause-comes : goal.returns-clause-comes
+returns-clause-comes g c =
+    let w = c.fill_next.new.h.view in
+    subst (λ (y : View). map_in y.trail c.args.object ≡ Some c.args.child) (sym c.set_object_map.ensures.view)
+    (ap (λ (b : Bool). cond b (Some c.args.child) (map_in w.trail c.args.object)) (eq-eqb c.args.object c.args.object refl))
+
+pub returns-clause-details : goal.returns-clause-details
+returns-clause-details g c f =
+    ap (λ (y : View). detail_in y.trail f) c.set_object_map.ensures.view
+    ∙ details-same c.maps_are_kept.ensures.law c.details_rise.ensures.law c.trees_stay.ensures.law c.unused_says_nothing.ensures.law c.args.h.now.view c.fill_next.new.h.view c.args.object c.args.map c.args.child c.args.n c.held_word.result c.args.p c.stands.ensures.heap c.fill_next.ensures.heap c.fill_next.ensures.fitted c.requires.has c.requires.unstable c.requires.open c.requires.holds c.requires.shared c.requires.child c.requires.grown c.fill_next.ensures.last c.held_word.ensures.form c.held_word.ensures.holds f

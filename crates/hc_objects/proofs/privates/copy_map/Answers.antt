@@ -1,6 +1,10 @@
 use Rattle.std.proofs.Common.{sym, subst, IfSome}
 use Rattle.hc_heap.specs.States.{View}
 use Rattle.hc_tree.specs.Copying.{MayBeLast}
+use Rattle.hc_descs.specs.Entries.{count_of}
+use Rattle.hc_tree.specs.Copying.{CopyGets}
+use Rattle.hc_tree.specs.Details.{DetailsAre}
+use Rattle.hc_objects.proofs.Gets.{marked-copy}
 use Rattle.hc_objects.proofs.Copied.{IsMade, copied-from, marked-last}
 use Rattle.hc_objects.proofs.Owning.{open-used}
 use Rattle.hc_slots.specs.Cases.{some-of}
@@ -29,3 +33,11 @@ returns-clause-copied g c =
       tree = c.in-Ok.ensures.tree;
       heap = c.in-Ok.ensures.heap;
     }))
+
+pub returns-clause-details : goal.returns-clause-details
+returns-clause-details g c =
+    let v = c.args.h.now.view in
+    let m = c.args.map in
+    let w = c.private_copy.new.h.view in
+    marked-copy v.trail w.trail m v.used.fields c.args.fresh c.args.more
+    (subst (λ (x : View). DetailsAre (CopyGets c.args.fresh c.args.more x.trail m (count_of x.trail m) x.used.fields) x.trail w.trail) c.mark_unstable.ensures.view c.in-Ok.ensures.details)

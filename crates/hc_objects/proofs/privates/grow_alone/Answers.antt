@@ -1,4 +1,4 @@
-use Rattle.std.proofs.Common.{◌≡◌, ◌∙◌, ap, refl, sym, subst, true≢false}
+use Rattle.std.proofs.Common.{◌≡◌, ◌∙◌, true, ap, refl, sym, subst, true≢false}
 use Rattle.std.specs.Prelude.{IsTrue, ◌↔◌}
 use Rattle.hc_layout.specs.declared.words.StoreWord.{StoreWord}
 use Rattle.hc_heap.specs.Readings.{store_in}
@@ -7,6 +7,8 @@ use Rattle.hc_tree.specs.declared.need.Need.{Need}
 use Rattle.hc_tree.specs.Needs.{HasSpace}
 use Rattle.hc_objects.specs.Changes.{key_of}
 use Rattle.hc_objects.specs.Privates.{private_need}
+use Rattle.hc_tree.specs.Details.{DetailsAre}
+use Rattle.hc_objects.specs.Details.{GrownGets}
 use Rattle.hc_objects.proofs.privates.grow_alone.Goals as goal
 
 pub returns-then-not-has_space-clause-room : goal.returns-then-not-has_space-clause-room
@@ -38,3 +40,8 @@ returns-clause-room g c =
     let test : IsTrue c.has_space.result ↔ HasSpace v (private_need (key_of c.args.p) c.args.n (store_in v.trail c.args.object).capacity) =
     subst (λ (x : Need). IsTrue c.has_space.result ↔ HasSpace v x) need (subst (λ (x : View). IsTrue c.has_space.result ↔ HasSpace x c.need_of_growth.result) read c.has_space.ensures) in
     (λ yes. test.0 c.if-not-has_space.false, λ space. refl)
+
+pub returns-clause-details : goal.returns-clause-details
+returns-clause-details g c =
+    let read : c.store-store.new.self.view ≡ c.args.h.now.view = ap (λ (s : HeapState g.row.P.Denot). s.view) c.store-store.ensures.new in
+    λ yes. subst (λ (x : View). DetailsAre (GrownGets true x.trail x.used c.args.map c.args.n c.args.p) x.trail c.grow_to_copy.new.h.view.trail) read c.grow_to_copy.ensures.details

@@ -13,6 +13,14 @@ use Rattle.hc_tree.specs.Tree.{gate_with, tagged_field}
 use Rattle.hc_objects.specs.Changes.{key_of}
 use Rattle.hc_slots.specs.Fast.{IsFast}
 use Rattle.hc_objects.specs.Privates.{IsCopied, IsGrownAlone}
+use Rattle.hc_heap.specs.Readings.{detail_in}
+use Rattle.hc_value.specs.declared.field.Constness.TheVariants.{Const}
+use Rattle.hc_descs.specs.Entries.{count_of}
+use Rattle.hc_tree.specs.Copying.{CopyGets}
+use Rattle.hc_tree.specs.Details.{DetailsAre}
+use Rattle.hc_objects.specs.Admitting.{held_detail}
+use Rattle.hc_objects.specs.Details.{GrownGets}
+use Rattle.hc_objects.proofs.Gets.{details-as, details-on, fitted-detail}
 use Rattle.hc_objects.proofs.GrownAlone.{capacity-then, grow-lawful, grown-alone, handed-then, may-be-prototype, out-then, room-then, unstable-then}
 use Rattle.hc_objects.proofs.privates.grow_to_copy.Goals as goal
 
@@ -59,11 +67,11 @@ fill_next-requires g c =
     (subst (λ (k : Key). IsCopied false (Some (k, d)) proto c.proto.new.self.view w c.args.map) c.entry_for-entry.ensures.key c.copy_map-copy.ensures.copied) in
     record {
       few = c.requires.few;
-      capacity = capacity-then c.maps_are_kept.ensures.law c.details_rise.ensures.law c.trees_stay.ensures.law c.unused_says_nothing.ensures.law proto v w c.args.object c.args.map c.args.n c.args.p d c.stands.ensures.heap it c.requires.has fast is c.entry_for-entry.ensures.narrow;
-      out = out-then c.maps_are_kept.ensures.law c.details_rise.ensures.law c.trees_stay.ensures.law c.unused_says_nothing.ensures.law proto v w c.args.object c.args.map c.args.n c.args.p d c.stands.ensures.heap it c.requires.has fast is c.entry_for-entry.ensures.narrow c.requires.out;
-      handed = handed-then c.maps_are_kept.ensures.law c.details_rise.ensures.law c.trees_stay.ensures.law c.unused_says_nothing.ensures.law proto v w c.args.object c.args.map c.args.n c.args.p d c.stands.ensures.heap it c.requires.has fast is c.entry_for-entry.ensures.narrow c.requires.handed;
-      unstable = unstable-then c.maps_are_kept.ensures.law c.details_rise.ensures.law c.trees_stay.ensures.law c.unused_says_nothing.ensures.law proto v w c.args.object c.args.map c.args.n c.args.p d c.stands.ensures.heap it c.requires.has fast is c.entry_for-entry.ensures.narrow;
-      room = room-then c.maps_are_kept.ensures.law c.details_rise.ensures.law c.trees_stay.ensures.law c.unused_says_nothing.ensures.law proto v w c.args.object c.args.map c.args.n c.args.p d c.stands.ensures.heap it c.requires.has fast is c.entry_for-entry.ensures.narrow c.requires.space;
+      capacity = capacity-then c.maps_are_kept.ensures.law c.details_rise.ensures.law c.trees_stay.ensures.law c.unused_says_nothing.ensures.law proto v w c.args.object c.args.map c.args.n c.args.p d c.stands.ensures.heap it c.requires.has fast is c.entry_for-entry.ensures.narrow c.entry_for-entry.ensures.detail;
+      out = out-then c.maps_are_kept.ensures.law c.details_rise.ensures.law c.trees_stay.ensures.law c.unused_says_nothing.ensures.law proto v w c.args.object c.args.map c.args.n c.args.p d c.stands.ensures.heap it c.requires.has fast is c.entry_for-entry.ensures.narrow c.entry_for-entry.ensures.detail c.requires.out;
+      handed = handed-then c.maps_are_kept.ensures.law c.details_rise.ensures.law c.trees_stay.ensures.law c.unused_says_nothing.ensures.law proto v w c.args.object c.args.map c.args.n c.args.p d c.stands.ensures.heap it c.requires.has fast is c.entry_for-entry.ensures.narrow c.entry_for-entry.ensures.detail c.requires.handed;
+      unstable = unstable-then c.maps_are_kept.ensures.law c.details_rise.ensures.law c.trees_stay.ensures.law c.unused_says_nothing.ensures.law proto v w c.args.object c.args.map c.args.n c.args.p d c.stands.ensures.heap it c.requires.has fast is c.entry_for-entry.ensures.narrow c.entry_for-entry.ensures.detail;
+      room = room-then c.maps_are_kept.ensures.law c.details_rise.ensures.law c.trees_stay.ensures.law c.unused_says_nothing.ensures.law proto v w c.args.object c.args.map c.args.n c.args.p d c.stands.ensures.heap it c.requires.has fast is c.entry_for-entry.ensures.narrow c.entry_for-entry.ensures.detail c.requires.space;
     }
 
 pub set_object_map-requires-clause-lawful : goal.set_object_map-requires-clause-lawful
@@ -80,7 +88,7 @@ set_object_map-requires-clause-lawful g c =
     (subst (λ (k : Key). IsCopied false (Some (k, d)) proto c.proto.new.self.view w c.args.map) c.entry_for-entry.ensures.key c.copy_map-copy.ensures.copied) in
     let number = subst (λ (y : View). c.copy_map-copy.result ≡ y.used.maps) read c.copy_map-copy.ensures.number in
     subst (λ (k : ℕ). LawfulObjectMap x.shape x.trail c.args.object (Some k)) (sym number)
-    (grow-lawful c.maps_are_kept.ensures.law c.details_rise.ensures.law c.trees_stay.ensures.law c.unused_says_nothing.ensures.law proto v w c.args.object c.args.map c.args.n c.args.p d c.stands.ensures.heap it c.requires.has fast is c.entry_for-entry.ensures.narrow
+    (grow-lawful c.maps_are_kept.ensures.law c.details_rise.ensures.law c.trees_stay.ensures.law c.unused_says_nothing.ensures.law proto v w c.args.object c.args.map c.args.n c.args.p d c.stands.ensures.heap it c.requires.has fast is c.entry_for-entry.ensures.narrow c.entry_for-entry.ensures.detail
     x c.held_word-word.result c.fill_next.ensures.heap c.fill_next.ensures.fitted (omega (arith, c.fill_next.ensures.fitted.more)) c.fill_next.ensures.last c.held_word-word.ensures.form c.held_word-word.ensures.holds)
 
 pub returns-clause-grown : goal.returns-clause-grown
@@ -99,7 +107,7 @@ returns-clause-grown g c =
     let view : c.set_object_map.new.self.view ≡ with_write x (ObjectMap c.args.object (Some v.used.maps)) =
     subst (λ (k : ℕ). c.set_object_map.new.self.view ≡ with_write x (ObjectMap c.args.object (Some k))) number c.set_object_map.ensures.view in
     subst (λ (y : View). IsGrownAlone v y c.args.object c.args.map c.args.n c.args.p) (sym view)
-    (grown-alone c.maps_are_kept.ensures.law c.details_rise.ensures.law c.trees_stay.ensures.law c.unused_says_nothing.ensures.law proto v w c.args.object c.args.map c.args.n c.args.p d c.stands.ensures.heap it c.requires.has fast is c.entry_for-entry.ensures.narrow
+    (grown-alone c.maps_are_kept.ensures.law c.details_rise.ensures.law c.trees_stay.ensures.law c.unused_says_nothing.ensures.law proto v w c.args.object c.args.map c.args.n c.args.p d c.stands.ensures.heap it c.requires.has fast is c.entry_for-entry.ensures.narrow c.entry_for-entry.ensures.detail
     x c.held_word-word.result c.fill_next.ensures.heap c.fill_next.ensures.fitted (omega (arith, c.fill_next.ensures.fitted.more)) c.fill_next.ensures.last c.held_word-word.ensures.form c.held_word-word.ensures.holds (subst IsHeap view c.set_object_map.ensures.heap))
 
 pub returns-clause-went : goal.returns-clause-went
@@ -109,3 +117,18 @@ returns-clause-went g c =
     (on _ _ _ _ _ _ c.proto.ensures.went
     (on _ _ _ _ _ _ c.copy_map-copy.ensures.went
     (on _ _ _ _ _ _ c.fill_next.ensures.went c.set_object_map.ensures.went)))
+
+pub returns-clause-details : goal.returns-clause-details
+returns-clause-details g c =
+    let v = c.args.h.now.view in
+    let w = c.copy_map-copy.new.h.view in
+    let x = c.fill_next.new.h.view in
+    let m = c.args.map in
+    let e = c.entry_for-entry.result in
+    let read : c.proto.new.self.view ≡ v = ap (λ (s : HeapState g.row.P.Denot). s.view) c.proto.ensures.new ∙ ap (λ (s : HeapState g.row.P.Denot). s.view) c.entry_for-entry.ensures.same in
+    let asked : e.1 ≡ held_detail v.trail c.args.p.held Const = c.entry_for-entry.ensures.detail in
+    let copied : DetailsAre (CopyGets false (Some e) v.trail m (count_of v.trail m) v.used.fields) v.trail w.trail =
+    subst (λ (y : View). DetailsAre (CopyGets false (Some e) y.trail m (count_of y.trail m) y.used.fields) y.trail w.trail) read c.copy_map-copy.ensures.details in
+    details-on (details-as (CopyGets false (Some e) v.trail m (count_of v.trail m) v.used.fields) (GrownGets true v.trail v.used m c.args.n c.args.p)
+    (λ f d got. (got.0, got.1 ∙ sym asked)) (λ f d got. (got.0, got.1 ∙ asked)) copied)
+    (λ f. ap (λ (y : View). detail_in y.trail f) c.set_object_map.ensures.view ∙ fitted-detail w x c.args.object c.args.n f c.fill_next.ensures.fitted)

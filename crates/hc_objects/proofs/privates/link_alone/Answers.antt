@@ -1,4 +1,4 @@
-use Rattle.std.proofs.Common.{◌≡◌, ◌≤◌, ℕ, false, true, ap, sym, subst, Some}
+use Rattle.std.proofs.Common.{◌≡◌, ◌≤◌, ℕ, false, true, arith, ap, sym, subst, None, Some}
 use Rattle.hc_layout.specs.declared.capacity.TheConstants.{MAX_FAST}
 use Rattle.hc_heap.specs.Writes.{ObjectMap}
 use Rattle.hc_heap.specs.Lawful.{LawfulObjectMap}
@@ -7,6 +7,11 @@ use Rattle.hc_descs.specs.Entries.{entries_in}
 use Rattle.hc_tree.specs.Tree.{gate_with}
 use Rattle.hc_slots.specs.Fast.{IsFast}
 use Rattle.hc_objects.specs.Privates.{IsMovedToCopy}
+use Rattle.hc_heap.specs.Readings.{detail_in}
+use Rattle.hc_descs.specs.Entries.{count_of}
+use Rattle.hc_tree.specs.Copying.{CopyGets}
+use Rattle.hc_objects.specs.Details.{GetsNothing}
+use Rattle.hc_objects.proofs.Gets.{details-as, details-on}
 use Rattle.hc_objects.proofs.Relinking.{copy-lawful, moved-to-copy}
 use Rattle.hc_objects.proofs.privates.link_alone.Goals as goal
 
@@ -34,3 +39,10 @@ returns-clause-linked g c = λ yes.
     subst (λ (x : ℕ). c.set_object_map.new.self.view ≡ with_write w (ObjectMap c.args.object (Some x))) c.copy_map-copy.ensures.number c.set_object_map.ensures.view in
     subst (λ (x : View). IsMovedToCopy false v x c.args.object c.args.map c.args.n c.args.proto) (sym is)
     (moved-to-copy c.maps_are_kept.ensures.law c.details_rise.ensures.law c.trees_stay.ensures.law c.unused_says_nothing.ensures.law false c.args.proto v w c.args.object c.args.map (gate_with c.args.n true) c.stands.ensures.heap c.copy_map-copy.ensures.copied c.requires.has fast (subst IsHeap is c.set_object_map.ensures.heap))
+
+pub returns-clause-details : goal.returns-clause-details
+returns-clause-details g c =
+    let v = c.args.h.now.view in
+    λ yes. details-on (details-as (CopyGets false None v.trail c.args.map (count_of v.trail c.args.map) v.used.fields) GetsNothing
+    (λ f d got. absurd got) (λ f d got. omega (arith, got.from, got.within)) c.copy_map-copy.ensures.details)
+    (λ f. ap (λ (y : View). detail_in y.trail f) c.set_object_map.ensures.view)

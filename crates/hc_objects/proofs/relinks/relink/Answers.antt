@@ -1,7 +1,10 @@
-use Rattle.std.proofs.Common.{sym, subst}
+use Rattle.std.proofs.Common.{ap, sym, subst}
 use Rattle.hc_heap.specs.States.{View, IsHeap}
 use Rattle.hc_objects.specs.Linking.{HasMapFor, IsRelinked}
 use Rattle.hc_objects.specs.State.{AreRoots}
+use Rattle.hc_heap.specs.Readings.{detail_in}
+use Rattle.hc_descs.specs.Entries.{entries_in}
+use Rattle.hc_objects.proofs.Gets.{rewalked}
 use Rattle.hc_objects.proofs.Owning.{open-used}
 use Rattle.hc_objects.proofs.Relinked.{marked_view, marked-roots, relink-lawful, relinked}
 use Rattle.hc_objects.proofs.relinks.relink.Goals as goal
@@ -25,7 +28,7 @@ set_object_map-requires-clause-lawful g c =
     let found : HasMapFor (marked_view v c.args.map) w null then c.args.map c.map_for-found.result c.args.n c.args.proto =
     subst (λ (x : View). HasMapFor x w null then c.args.map c.map_for-found.result c.args.n c.args.proto) c.mark_unstable.ensures.view c.map_for-found.ensures.found in
     relink-lawful c.maps_are_kept.ensures.law c.details_rise.ensures.law c.trees_stay.ensures.law c.set_is_kept.ensures.law c.gates_are_open.ensures.law c.unused_says_nothing.ensures.law v w null then c.args.proto c.args.object c.args.map c.map_for-found.result c.args.n
-    c.stands.ensures.heap found c.requires.has c.requires.open c.requires.holds c.requires.shared
+    c.stands.ensures.heap c.requires.tree found c.requires.has c.requires.open c.requires.holds c.requires.shared
 
 pub returns-clause-relinked : goal.returns-clause-relinked
 returns-clause-relinked g c =
@@ -38,4 +41,15 @@ returns-clause-relinked g c =
     let is = c.set_object_map.ensures.view in
     subst (λ (x : View). IsRelinked v x null then c.args.object c.args.map c.args.n c.args.proto) (sym is)
     (relinked c.maps_are_kept.ensures.law c.details_rise.ensures.law c.trees_stay.ensures.law c.set_is_kept.ensures.law c.gates_are_open.ensures.law c.unused_says_nothing.ensures.law v w null then c.args.proto c.args.object c.args.map c.map_for-found.result c.args.n
-    c.stands.ensures.heap found c.requires.has c.requires.open c.requires.holds c.requires.shared (subst IsHeap is c.set_object_map.ensures.heap))
+    c.stands.ensures.heap c.requires.tree found c.requires.has c.requires.open c.requires.holds c.requires.shared (subst IsHeap is c.set_object_map.ensures.heap))
+
+pub returns-clause-details : goal.returns-clause-details
+returns-clause-details g c =
+    let v = c.args.h.now.view in
+    let w = c.map_for-found.new.h.view in
+    let null = c.args.of_null.now in
+    let then = c.map_for-found.new.of_null in
+    let found : HasMapFor (marked_view v c.args.map) w null then c.args.map c.map_for-found.result c.args.n c.args.proto =
+    subst (λ (x : View). HasMapFor x w null then c.args.map c.map_for-found.result c.args.n c.args.proto) c.mark_unstable.ensures.view c.map_for-found.ensures.found in
+    rewalked v w c.set_object_map.new.self.view null then c.args.map c.map_for-found.result c.args.n c.args.proto (ap entries_in c.requires.open) found
+    (λ f. ap (λ (x : View). detail_in x.trail f) c.set_object_map.ensures.view)

@@ -1,4 +1,9 @@
-use Rattle.std.proofs.Common.{◌≡◌, false, ◌∙◌, Some, ap, sym, subst}
+use Rattle.std.proofs.Common.{◌≡◌, false, ◌∙◌, Some, refl, ap, sym, subst}
+use Rattle.hc_objects.specs.Admitting.{AsksLast}
+use Rattle.hc_descs.specs.Entries.{entries_in}
+use Rattle.hc_objects.specs.Details.{AddedGets, DetailsAre, GrownGets}
+use Rattle.hc_objects.proofs.Gets.{added-gets}
+use Rattle.hc_objects.proofs.Facts.{moved-facts}
 use Rattle.std.specs.Prelude.{IsSome}
 use Rattle.hc_heap.specs.Readings.{gate_in, root_in}
 use Rattle.hc_heap.specs.Frames.{goes-on}
@@ -78,6 +83,14 @@ returns-clause-added g c = λ yes.
       goes = goes-on c.self.inside.heap.desk c.map_of-map.new.h.desk c.grow_object.new.h.desk c.map_of-map.ensures.goes
           (goes-on c.map_of-map.new.h.desk c.gate.new.self.desk c.grow_object.new.h.desk c.gate.ensures.goes c.grow_object.ensures.goes);
       went = on _ _ _ _ _ _ c.map_of-map.ensures.went (on _ _ _ _ _ _ c.gate.ensures.went c.grow_object.ensures.went);
+      keeps =
+          let v = c.self.inside.heap.view in
+          let w = c.grow_object.new.h.view in
+          let m = c.map_of-map.result in
+          let n = c.unwrap-gate.result.entries in
+          moved-facts c.maps_are_kept.ensures.law c.details_rise.ensures.law c.forms_are_kept.ensures.law c.stable_is_kept.ensures.law c.honest_after.ensures.law c.kept_is_carried.ensures.law c.moved_is_carried.ensures.law c.stored_is_given.ensures.law
+          v w c.self.inside.kept.items c.self.inside.of_null c.self.invariant c.args.o m n c.unwrap-gate.result c.args.p c.map_of-map.ensures.map (ap (λ (x : View). gate_in x.trail m) (sym read) ∙ gate) refl
+          (subst (λ (x : View). IsMoved x w c.args.o m n c.args.p) (again ∙ read) moved) (subst (λ (x : View). AsksLast x.trail w.trail c.args.o n c.args.p) (again ∙ read) (c.grow_object.ensures.asks yes));
     })
 
 pub returns-clause-room : goal.returns-clause-room
@@ -113,3 +126,17 @@ returns-clause-marks g c = λ yes.
     let shared : (root_in v.trail c.args.o).is_proto ≡ false = subst (λ (s : ObjectsState g.row.P.Denot). (root_in s.heap.view.trail c.args.o).is_proto ≡ false) (sym c.self.view_is) c.requires.shared in
     subst (λ (s : ObjectsState g.row.P.Denot). Marks s.heap.view.trail w.trail c.args.o) c.self.view_is
     (grown-marks v w c.args.o m n c.args.p c.map_of-map.ensures.map shared (subst (λ (x : View). IsMoved x w c.args.o m n c.args.p) same (c.grow_object.ensures.moved yes)))
+
+pub returns-clause-details : goal.returns-clause-details
+returns-clause-details g c = λ yes.
+    let v = c.self.inside.heap.view in
+    let w = c.grow_object.new.h.view in
+    let m = c.map_of-map.result in
+    let n = c.unwrap-gate.result.entries in
+    let first : c.map_of-map.new.h.view ≡ v = ap (λ (s : HeapState g.row.P.Denot). s.view) c.map_of-map.ensures.new in
+    let same : c.gate.new.self.view ≡ v = ap (λ (s : HeapState g.row.P.Denot). s.view) c.gate.ensures.new ∙ first in
+    let gate : gate_in v.trail m ≡ Some c.unwrap-gate.result = ap (λ (x : View). gate_in x.trail m) (sym first) ∙ (sym c.gate.ensures.value ∙ c.unwrap-gate.ensures) in
+    let proto : (root_in v.trail c.args.o).is_proto ≡ false = subst (λ (s : ObjectsState g.row.P.Denot). (root_in s.heap.view.trail c.args.o).is_proto ≡ false) (sym c.self.view_is) c.requires.shared in
+    subst (λ (s : ObjectsState g.row.P.Denot). DetailsAre (AddedGets s.heap.view c.args.o c.args.p) s.heap.view.trail w.trail) c.self.view_is
+    (added-gets v w c.args.o m n c.args.p false c.map_of-map.ensures.map (ap entries_in gate) proto
+    (subst (λ (x : View). DetailsAre (GrownGets false x.trail x.used m n c.args.p) x.trail w.trail) same (c.grow_object.ensures.details yes)))

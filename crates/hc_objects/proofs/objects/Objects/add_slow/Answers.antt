@@ -52,7 +52,7 @@ returns-clause-steps g c =
     let full : Dictionary = record d { props = d.props ++ c.args.p ∷ [] } in
     let then : ObjectsState g.row.P.Denot = record { heap = c.self.inside.heap; kept = set kept o (Some c.add.new.self); of_null = null } in
     on-ok c.add.result (c.add.new.self ≡ full) (Steps g.P.Pace.went c.args.self.now (Added o c.args.p) then)
-    (λ added. slow-steps g.P.Pace.went g.met.P.Pace.stays _ _ c.self.view_is (Added o c.args.p) (set kept o (Some c.add.new.self))
+    (λ added. slow-steps g.P.Pace.went g.met.P.Pace.stays _ _ c.self.view_is c.self.invariant.heap.lawful (Added o c.args.p) (set kept o (Some c.add.new.self))
     (slow-world v kept null c.self.invariant o there d is c.maps_are_kept.ensures.law c.details_rise.ensures.law c.changes_keep.ensures.law c.add.new.self (Added o c.args.p)
     (slow-change v kept null c.self.invariant o there d is c.add.new.self (λ (x : Object). with_list x (x.props ++ c.args.p ∷ [])) (ap (λ (y : Dictionary). dictionary_object y) (sym added)))))
     c.add.ensures.added

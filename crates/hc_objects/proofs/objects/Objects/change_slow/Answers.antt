@@ -41,6 +41,6 @@ returns-clause-steps g c =
     let there : o < length kept = within _ _ o c.self.view_is c.requires.object in
     let d = c.unwrap-slow.result.now in
     let is : kept_of kept o ≡ Some d = item-is kept o c.index_mut.result.now c.as_mut.result c.unwrap-slow.result there c.index_mut.ensures.value c.as_mut.ensures.value c.unwrap-slow.ensures in
-    slow-steps g.P.Pace.went g.met.P.Pace.stays _ _ c.self.view_is (did_of o c.args.change) (set kept o (Some c.change.new.self))
+    slow-steps g.P.Pace.went g.met.P.Pace.stays _ _ c.self.view_is c.self.invariant.heap.lawful (did_of o c.args.change) (set kept o (Some c.change.new.self))
     (slow-world v kept null c.self.invariant o there d is c.maps_are_kept.ensures.law c.details_rise.ensures.law c.changes_keep.ensures.law c.change.new.self (did_of o c.args.change)
     (change-is v kept null c.self.invariant o there d is c.args.change c.change.new.self c.change.ensures.changed))

@@ -1,7 +1,6 @@
 use Rattle.std.proofs.Common.{◌≡◌, ◌∙◌, ℕ, ◌<◌, Option, None, Some, List, length, set, ap, sym, subst}
 use Rattle.std.proofs.lemmas.List.{set-get_or}
 use Rattle.hc_value.specs.declared.prop.Prop.{Prop}
-use Rattle.hc_objects.specs.Came.{world_of}
 use Rattle.hc_slots.specs.Meaning.{Dictionary}
 use Rattle.hc_objects.specs.Meaning.{kept_of}
 use Rattle.hc_objects.specs.State.{ObjectsState, IsObjects}

@@ -8,6 +8,8 @@ use Rattle.hc_heap.specs.States.{View, HeapState, Goes, HasRoom}
 use Rattle.hc_table.specs.Changes.{IsThere}
 use Rattle.hc_table.specs.World.{Object, new_object, object}
 use Rattle.hc_objects.specs.Changes.{KeptBut}
+use Rattle.hc_objects.specs.Admitting.{FactsStay}
+use Rattle.hc_objects.proofs.Composing.{facts-none}
 use Rattle.hc_objects.specs.Creating.{IsBegun}
 use Rattle.hc_slots.specs.Meaning.{Dictionary, dictionary_object}
 use Rattle.hc_objects.specs.Meaning.{cause_in, world}
@@ -59,6 +61,7 @@ returns-clause-begun g c =
         shape = ap (λ (w : View). w.shape) same;
         goes = subst (λ (s : HeapState g.row.P.Denot). Goes desk s.desk) (sym c.fresh.ensures.new) (goes-none desk);
         went = subst (λ (s : HeapState g.row.P.Denot). g.P.Pace.went pace desk.trail s.desk.trail s.pace) (sym c.fresh.ensures.new) (g.met.P.Pace.stays pace desk.trail);
+        keeps = subst (λ (w : View). FactsStay v.shape v.trail w.trail) (sym same) (facts-none v.shape v.trail c.self.invariant.heap.lawful);
       };
       view = more;
       value = subst (λ (n : ℕ). object (world new.trail then) n ≡ new_object proto) (sym items)

@@ -5,6 +5,7 @@ use Rattle.hc_heap.specs.Readings.{root_in}
 use Rattle.hc_heap.specs.States.{HeapState}
 use Rattle.hc_objects.specs.State.{ObjectsState}
 use Rattle.hc_objects.specs.Came.{Moves}
+use Rattle.hc_objects.specs.Details.{DetailsAre, GetsNothing}
 use Rattle.hc_objects.proofs.Adds.{left-lawful}
 use Rattle.hc_objects.proofs.Composing.{but-on, left-moves}
 use Rattle.hc_objects.proofs.objects.Objects.leave_and_add.Goals as goal
@@ -20,5 +21,8 @@ returns-clause-moved g c = on_err_weaker c.add_slow.result
     (λ same. subst (λ (s : ObjectsState g.row.P.Denot). Moves g.P.Pace.went c.args.self.now s) (sym same)
     (left-moves g.P.Pace.went c.args.self.now c.leave.new.self c.args.o c.args.cause
     (left-lawful g.P.Pace.went c.args.self.now c.leave.new.self c.args.o c.args.cause c.in_ok-leave.ensures.moved c.requires.fast c.requires.why c.in_ok-leave.ensures.cause c.leave.ensures.others c.leave.ensures.used
-    (λ q. ap (λ (r : RootWord). r.is_proto) (c.leave.ensures.roots q)) c.in_ok-leave.ensures.marks c.stands.ensures.sound)))
+    (λ q. ap (λ (r : RootWord). r.is_proto) (c.leave.ensures.roots q)) c.in_ok-leave.ensures.marks c.leave.ensures.details c.stands.ensures.sound)))
     c.add_slow.ensures.err
+
+pub returns-clause-details : goal.returns-clause-details
+returns-clause-details g c = subst (λ (h : HeapState g.row.P.Denot). DetailsAre GetsNothing c.args.self.now.heap.view.trail h.view.trail) (sym c.add_slow.ensures.heap) c.leave.ensures.details

@@ -12,8 +12,11 @@ use Rattle.hc_objects.specs.Came.{Steps, world_of}
 use Rattle.hc_slots.specs.Meaning.{Dictionary, dictionary_object, object_shown}
 use Rattle.hc_objects.specs.Meaning.{kept_of}
 use Rattle.hc_objects.specs.State.{ObjectsState}
+use Rattle.hc_heap.specs.Readings.{detail_in}
+use Rattle.hc_objects.specs.Details.{DetailsAre, GetsNothing}
+use Rattle.hc_objects.proofs.Gets.{details-none, marked-detail}
 use Rattle.hc_objects.proofs.Items.{kept-set_here}
-use Rattle.hc_objects.proofs.Left.{unmoved-one, unmoved-goes, unmoved-went, fast-is, map-used, left-world, left-sound}
+use Rattle.hc_objects.proofs.Left.{unmoved-one, unmoved-goes, unmoved-went, fast-is, map-used, left-world, left-sound, left-facts}
 use Rattle.hc_objects.proofs.Shown.{fast-has, within}
 use Rattle.hc_objects.specs.Rest.{Marks}
 use Rattle.hc_objects.proofs.Marking.{left-marks}
@@ -108,6 +111,8 @@ returns-clause-moved g c =
       shape = ap (λ (w : View). w.shape) is;
       goes = goes-on first.desk last.desk c.leave_map.new.h.desk (unmoved-goes first last unmoved loads) c.leave_map.ensures.goes;
       went = g.met.P.Pace.goes_on _ _ _ _ _ _ (unmoved-went g.P.Pace.went g.met.P.Pace.stays first last unmoved) c.leave_map.ensures.went;
+      keeps = left-facts c.maps_are_kept.ensures.law c.details_rise.ensures.law c.trees_stay.ensures.law c.unused_says_nothing.ensures.law v kept null c.self.invariant o there fast m is_map d value new is marked_tree marked_heap c.leave_map.ensures.heap
+          c.forms_are_kept.ensures.law c.stable_is_kept.ensures.law c.honest_after.ensures.law c.kept_is_carried.ensures.law;
     })
 
 pub returns-clause-cause : goal.returns-clause-cause
@@ -136,3 +141,13 @@ returns-clause-gone g c =
     let o = c.args.o in
     ap (λ (w : View). map_in w.trail o) c.leave_map.ensures.view
     ∙ ap (λ (b : Bool). cond b None (map_in (marked c.map_of-map.new.h.view.trail c.map_of-map.result) o)) (eq-eqb o o refl)
+
+pub returns-clause-details : goal.returns-clause-details
+returns-clause-details g c =
+    let v = c.self.inside.heap.view in
+    let o = c.args.o in
+    let again : c.map_of-map.new.h.view ≡ v = ap (λ (s : HeapState g.row.P.Denot). s.view) c.map_of-map.ensures.new in
+    let m = c.map_of-map.result in
+    let is : c.leave_map.new.h.view ≡ record v { trail = ObjectMap o None ∷ marked v.trail m } = c.leave_map.ensures.view ∙ ap (λ (w : View). let x : View = record w { trail = ObjectMap o None ∷ marked w.trail m } in x) again in
+    subst (λ (s : ObjectsState g.row.P.Denot). DetailsAre GetsNothing s.heap.view.trail c.leave_map.new.h.view.trail) c.self.view_is
+    (details-none (λ f. ap (λ (w : View). detail_in w.trail f) is ∙ marked-detail v.trail m f))

@@ -1,8 +1,10 @@
-use Rattle.std.proofs.Common.{◌≡◌, ◌∙◌, Some, ap, sym, subst, false}
+use Rattle.std.proofs.Common.{refl, ◌≡◌, ◌∙◌, Some, ap, sym, subst, false}
 use Rattle.hc_heap.specs.Readings.{gate_in}
 use Rattle.hc_heap.specs.Frames.{goes-on}
 use Rattle.hc_heap.specs.States.{View, HeapState}
 use Rattle.hc_table.specs.Changes.{Linked}
+use Rattle.hc_objects.specs.Details.{DetailsAre, GetsNothing}
+use Rattle.hc_objects.proofs.Facts.{copied-facts}
 use Rattle.hc_objects.specs.Came.{Steps}
 use Rattle.hc_objects.specs.State.{ObjectsState}
 use Rattle.hc_objects.proofs.Linking.{call-link-sound, call-link-world, call-may-be, call-owner}
@@ -65,6 +67,14 @@ returns-clause-linked g c = λ yes.
       goes = goes-on c.self.inside.heap.desk c.map_of-map.new.h.desk c.link_alone.new.h.desk c.map_of-map.ensures.goes
           (goes-on c.map_of-map.new.h.desk c.gate.new.self.desk c.link_alone.new.h.desk c.gate.ensures.goes c.link_alone.ensures.goes);
       went = on _ _ _ _ _ _ c.map_of-map.ensures.went (on _ _ _ _ _ _ c.gate.ensures.went c.link_alone.ensures.went);
+      keeps =
+          let v = c.self.inside.heap.view in
+          let w = c.link_alone.new.h.view in
+          let m = c.map_of-map.result in
+          let n = c.unwrap-gate.result.entries in
+          copied-facts c.maps_are_kept.ensures.law c.details_rise.ensures.law c.forms_are_kept.ensures.law c.stable_is_kept.ensures.law c.honest_after.ensures.law c.kept_is_carried.ensures.law c.moved_is_carried.ensures.law
+          v w c.self.inside.kept.items c.self.inside.of_null c.self.invariant c.args.o m n c.unwrap-gate.result c.map_of-map.ensures.map (ap (λ (x : View). gate_in x.trail m) (sym read) ∙ gate) refl false c.args.proto
+          (subst (λ (x : View). IsMovedToCopy false x w c.args.o m n c.args.proto) (again ∙ read) moved);
     })
 
 pub returns-clause-relinks : goal.returns-clause-relinks
@@ -77,3 +87,11 @@ returns-clause-relinks g c = λ yes.
     let it : IsMovedToCopy false v w c.args.o m n c.args.proto = subst (λ (x : View). IsMovedToCopy false x w c.args.o m n c.args.proto) same (c.link_alone.ensures.linked yes) in
     subst (λ (s : ObjectsState g.row.P.Denot). Relinks s.heap.view.trail w.trail c.args.o c.args.proto) c.self.view_is
     (copied-relink v w c.args.o m n c.args.proto c.map_of-map.ensures.map it)
+
+pub returns-clause-details : goal.returns-clause-details
+returns-clause-details g c = λ yes.
+    let v = c.self.inside.heap.view in
+    let w = c.link_alone.new.h.view in
+    let same : c.gate.new.self.view ≡ v = ap (λ (s : HeapState g.row.P.Denot). s.view) c.gate.ensures.new ∙ ap (λ (s : HeapState g.row.P.Denot). s.view) c.map_of-map.ensures.new in
+    subst (λ (s : ObjectsState g.row.P.Denot). DetailsAre GetsNothing s.heap.view.trail w.trail) c.self.view_is
+    (subst (λ (x : View). DetailsAre GetsNothing x.trail w.trail) same (c.link_alone.ensures.details yes))

@@ -1,10 +1,13 @@
-use Rattle.std.proofs.Common.{◌≡◌, ◌∙◌, false, Some, ap, sym, subst}
+use Rattle.std.proofs.Common.{◌≡◌, ◌∙◌, ℕ, false, refl, Some, ap, sym, subst}
 use Rattle.hc_heap.specs.Readings.{gate_in, root_in}
 use Rattle.hc_heap.specs.Frames.{goes-on}
 use Rattle.hc_heap.specs.States.{View, HeapState}
 use Rattle.hc_table.specs.Changes.{Linked}
 use Rattle.hc_objects.specs.Came.{Steps}
 use Rattle.hc_objects.specs.State.{ObjectsState}
+use Rattle.hc_objects.specs.Details.{HasRewalked, IsRewalked}
+use Rattle.hc_slots.specs.Cases.{some-is}
+use Rattle.hc_objects.proofs.Facts.{relinked-facts}
 use Rattle.hc_objects.proofs.Linked.{call-linkable, call-may, call-room, call-world, call-sound, call-needs, call-protos}
 use Rattle.hc_objects.proofs.Shown.{fast-has}
 use Rattle.hc_objects.specs.Rest.{Relinks}
@@ -66,6 +69,14 @@ returns-clause-linked g c = λ yes.
       goes = goes-on c.self.inside.heap.desk c.map_of-map.new.h.desk c.link_object.new.h.desk c.map_of-map.ensures.goes
           (goes-on c.map_of-map.new.h.desk c.gate.new.self.desk c.link_object.new.h.desk c.gate.ensures.goes c.link_object.ensures.goes);
       went = on _ _ _ _ _ _ c.map_of-map.ensures.went (on _ _ _ _ _ _ c.gate.ensures.went c.link_object.ensures.went);
+      keeps =
+          let v = c.self.inside.heap.view in
+          let w = c.link_object.new.h.view in
+          let m = c.map_of-map.result in
+          let n = c.unwrap-gate.result.entries in
+          relinked-facts c.maps_are_kept.ensures.law c.details_rise.ensures.law c.forms_are_kept.ensures.law c.stable_is_kept.ensures.law c.honest_after.ensures.law c.kept_is_carried.ensures.law c.moved_is_carried.ensures.law
+          v w c.self.inside.kept.items c.self.inside.of_null c.link_object.new.of_null c.self.invariant c.args.o m n c.unwrap-gate.result c.map_of-map.ensures.map (ap (λ (x : View). gate_in x.trail m) (sym read) ∙ gate) refl c.args.proto
+          (subst (λ (x : View). IsRelinked x w c.self.inside.of_null c.link_object.new.of_null c.args.o m n c.args.proto) (again ∙ read) moved);
     })
 
 pub returns-clause-room : goal.returns-clause-room
@@ -104,3 +115,13 @@ returns-clause-relinks g c = λ yes.
     subst (λ (s : ObjectsState g.row.P.Denot). Relinks s.heap.view.trail w.trail c.args.o c.args.proto) c.self.view_is
     (shared-relink v w c.self.inside.of_null c.link_object.new.of_null c.args.o m n c.args.proto c.map_of-map.ensures.map shared
     (λ k is named. proto-before c.maps_are_kept.ensures.law c.details_rise.ensures.law c.gates_are_open.ensures.law v w c.args.o m k c.args.proto c.unwrap-gate.result c.self.invariant.heap gate it.changed is named) it)
+
+pub returns-clause-details : goal.returns-clause-details
+returns-clause-details g c = λ yes.
+    let v = c.self.inside.heap.view in
+    let w = c.link_object.new.h.view in
+    let m = c.map_of-map.result in
+    let same : c.gate.new.self.view ≡ v = ap (λ (s : HeapState g.row.P.Denot). s.view) c.gate.ensures.new ∙ ap (λ (s : HeapState g.row.P.Denot). s.view) c.map_of-map.ensures.new in
+    let it : IsRewalked v c.self.inside.of_null m c.args.proto w.trail = subst (λ (x : View). IsRewalked x c.self.inside.of_null m c.args.proto w.trail) same (c.link_object.ensures.details yes) in
+    subst (λ (s : ObjectsState g.row.P.Denot). HasRewalked s.heap.view s.of_null c.args.o c.args.proto w.trail) c.self.view_is
+    (λ k is. subst (λ (x : ℕ). IsRewalked v c.self.inside.of_null x c.args.proto w.trail) (some-is m k (sym c.map_of-map.ensures.map ∙ is)) it)

@@ -18,6 +18,6 @@ returns-in-Some g c =
     let left = c.leave_with.ensures in
     let link = c.change_slow.ensures in
     record {
-      linked = left-linked g.P.Pace.went g.met.P.Pace.goes_on a c.leave_with.new.self c.change_slow.new.self c.args.o c.args.proto d c.requires.fast full.full full.cause
-          left.moved left.cause left.others left.used left.roots left.marks left.gone link.steps link.heap link.others link.cause;
+      linked = left-linked g.P.Pace.went g.met.P.Pace.goes_on c.constants_stay_on.ensures.law a c.leave_with.new.self c.change_slow.new.self c.args.o c.args.proto d c.requires.fast full.full full.cause
+          left.moved left.cause left.others left.used left.roots left.marks left.gone left.details link.steps link.heap link.others link.cause;
     }

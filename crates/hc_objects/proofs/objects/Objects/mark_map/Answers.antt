@@ -5,12 +5,13 @@ use Rattle.hc_heap.specs.Frames.{goes-on}
 use Rattle.hc_heap.specs.States.{HeapState, View, IsHeap}
 use Rattle.hc_tree.specs.Growth.{marked}
 use Rattle.hc_tree.specs.Tree.{IsTree}
+use Rattle.hc_objects.specs.Admitting.{FactsStay}
 use Rattle.hc_objects.specs.Came.{IsMarked}
 use Rattle.hc_objects.specs.Meaning.{kept_of, world}
 use Rattle.hc_objects.specs.State.{ObjectsState, IsObjects}
 use Rattle.hc_objects.proofs.Left.{map-used, marked-same}
 use Rattle.hc_objects.proofs.Shown.{fast-has, within}
-use Rattle.hc_objects.proofs.Unstable.{mark-world, mark-sound}
+use Rattle.hc_objects.proofs.Unstable.{mark-facts, mark-world, mark-sound}
 use Rattle.hc_objects.proofs.objects.Objects.mark_map.Goals as goal
 
 pub map_of-map-requires : goal.map_of-map-requires
@@ -58,6 +59,10 @@ returns g c =
           shape = ap (λ (w : View). w.shape) is;
           goes = goes-on c.self.inside.heap.desk c.map_of-map.new.h.desk c.mark_unstable.new.h.desk c.map_of-map.ensures.goes c.mark_unstable.ensures.goes;
           went = g.met.P.Pace.goes_on _ _ _ _ _ _ c.map_of-map.ensures.went c.mark_unstable.ensures.went;
+          keeps = subst (λ (w : View). FactsStay v.shape v.trail w.trail) (sym is)
+              (mark-facts c.maps_are_kept.ensures.law c.details_rise.ensures.law c.unused_says_nothing.ensures.law v kept c.self.inside.of_null c.self.invariant c.args.o there fast m
+              (subst (λ (w : View). IsTree w.trail) is c.mark_unstable.ensures.tree) (subst IsHeap is c.mark_unstable.ensures.heap)
+              c.forms_are_kept.ensures.law c.honest_after.ensures.law c.kept_is_carried.ensures.law);
         };
         map = m;
         has = c.map_of-map.ensures.map;

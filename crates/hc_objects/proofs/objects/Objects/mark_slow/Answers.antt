@@ -1,16 +1,18 @@
 use Rattle.std.proofs.Common.{◌≡◌, ◌<◌, length, ap, sym, subst, Option, None, Some, refl}
 use Rattle.hc_heap.specs.Readings.{map_in}
+use Rattle.hc_objects.proofs.Gets.{details-none}
 use Rattle.hc_objects.proofs.Marking.{how-left, words-same}
 use Rattle.std.specs.Prelude.{IsSome, option_map}
 use Rattle.hc_heap.specs.States.{View, IsHeap}
 use Rattle.hc_tree.specs.Tree.{IsTree}
 use Rattle.hc_table.specs.Changes.{Moved}
 use Rattle.hc_objects.specs.Becoming.{HasBecome, with_proto}
+use Rattle.hc_objects.specs.Admitting.{FactsStay}
 use Rattle.hc_objects.specs.Came.{Steps, HowBecame}
 use Rattle.hc_objects.specs.Meaning.{kept_of, world, cause_in}
 use Rattle.hc_slots.specs.Meaning.{Dictionary}
 use Rattle.hc_objects.specs.State.{ObjectsState, IsObjects}
-use Rattle.hc_objects.proofs.Prototypes.{became-proto, slow-proto-sound, slow-proto-world, slow-none}
+use Rattle.hc_objects.proofs.Prototypes.{became-proto, slow-proto-facts, slow-proto-sound, slow-proto-world, slow-none}
 use Rattle.hc_slots.specs.Cases.{some-of}
 use Rattle.hc_objects.proofs.Shown.{within}
 use Rattle.hc_objects.proofs.objects.Objects.mark_slow.Goals as goal
@@ -47,6 +49,9 @@ returns-clause-moved g c =
       shape = ap (λ (w : View). w.shape) is;
       goes = c.set_is_proto.ensures.goes;
       went = c.set_is_proto.ensures.went;
+      keeps = subst (λ (w : View). FactsStay v.shape v.trail w.trail) (sym is)
+          (slow-proto-facts c.maps_are_kept.ensures.law c.details_rise.ensures.law v kept null c.self.invariant p there slow.0 slow.1 tree heap
+          c.forms_are_kept.ensures.law c.stable_is_kept.ensures.law c.honest_after.ensures.law c.kept_is_carried.ensures.law);
     })
 
 pub returns-clause-became : goal.returns-clause-became
@@ -73,4 +78,4 @@ returns-clause-how g c =
     let before : ObjectsState g.row.P.Denot = record { heap = c.self.inside.heap; kept = kept; of_null = null } in
     let after : ObjectsState g.row.P.Denot = record { heap = c.set_is_proto.new.h; kept = kept; of_null = null } in
     subst (λ (s : ObjectsState g.row.P.Denot). HowBecame s p after) c.self.view_is
-    (how-left before before after p slow.0.cause none (words-same v.trail v.trail p refl) is cause)
+    (how-left before before after p slow.0.cause none (words-same v.trail v.trail p refl) (details-none (λ f. refl)) is cause)

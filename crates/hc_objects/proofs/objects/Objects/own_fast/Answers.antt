@@ -1,4 +1,7 @@
 use Rattle.std.proofs.Common.{◌≡◌, ◌<◌, true, false, None, length, ap, sym, ◌∙◌, subst, arith}
+use Rattle.hc_tree.specs.Copying.{CopyGets}
+use Rattle.hc_objects.specs.Details.{BecameGets, DetailsAre}
+use Rattle.hc_objects.proofs.Gets.{became-gets, fast-now}
 use Rattle.hc_objects.proofs.Marking.{owned-copy, owned-marks, owned-own}
 use Rattle.hc_heap.specs.Frames.{goes-on}
 use Rattle.hc_heap.specs.States.{View, HeapState}
@@ -10,12 +13,13 @@ use Rattle.hc_tree.specs.Needs.{HasSpace, with_need}
 use Rattle.hc_table.specs.Changes.{Moved}
 use Rattle.hc_objects.specs.Becoming.{HasBecome, IsOwned}
 use Rattle.hc_objects.specs.Came.{Steps, HowBecame}
-use Rattle.hc_objects.specs.Meaning.{kept_of}
+use Rattle.hc_objects.specs.Meaning.{cause_in, kept_of}
 use Rattle.hc_objects.specs.State.{ObjectsState}
 use Rattle.hc_slots.specs.Fast.{HasMap}
 use Rattle.hc_objects.specs.Modes.{proto_need}
+use Rattle.hc_objects.proofs.Composing.{no-cause}
 use Rattle.hc_objects.proofs.Become.{proto-copy}
-use Rattle.hc_objects.proofs.Owned.{own-sound, own-world}
+use Rattle.hc_objects.proofs.Owned.{own-facts, own-sound, own-world}
 use Rattle.hc_objects.proofs.Shown.{within, fast-has}
 use Rattle.hc_objects.proofs.objects.Objects.own_fast.Goals as goal
 
@@ -77,6 +81,8 @@ returns-clause-moved g c =
       shape = it.changed.shape;
       goes = goes-on c.self.inside.heap.desk c.map_of-map.new.h.desk c.take_own_map.new.h.desk c.map_of-map.ensures.goes c.take_own_map.ensures.goes;
       went = g.met.P.Pace.goes_on _ _ _ _ _ _ c.map_of-map.ensures.went c.take_own_map.ensures.went;
+      keeps = own-facts c.maps_are_kept.ensures.law c.details_rise.ensures.law c.forms_are_kept.ensures.law c.stable_is_kept.ensures.law c.honest_after.ensures.law c.kept_is_carried.ensures.law c.moved_is_carried.ensures.law
+          v new kept null c.self.invariant p there fast m c.map_of-map.ensures.map it;
     })
 
 pub returns-clause-became : goal.returns-clause-became
@@ -125,5 +131,20 @@ returns-clause-how g c =
     let new = c.take_own_map.new.h.view in
     let it : IsOwned v new p m = subst (λ (w : View). IsOwned w new p m) read c.take_own_map.ensures.owned in
     let after : ObjectsState g.row.P.Denot = record { heap = c.take_own_map.new.h; kept = c.self.inside.kept.items; of_null = c.self.inside.of_null } in
+    let shared : (root_in v.trail p).is_proto ≡ false = subst (λ (s : ObjectsState g.row.P.Denot). (root_in s.heap.view.trail p).is_proto ≡ false) (sym c.self.view_is) c.requires.shared in
+    let fast : kept_of c.self.inside.kept.items p ≡ None = subst (λ (s : ObjectsState g.row.P.Denot). kept_of s.kept c.args.p ≡ None) (sym c.self.view_is) c.requires.fast in
+    let got = became-gets v new p m c.map_of-map.ensures.map shared (subst (λ (w : View). DetailsAre (CopyGets true None w.trail m (count_of w.trail m) w.used.fields) w.trail new.trail) read c.take_own_map.ensures.details) in
     subst (λ (s : ObjectsState g.row.P.Denot). HowBecame s p after) c.self.view_is
-    (record { marks = owned-marks v new p m c.map_of-map.ensures.map it; own = λ x is shared. owned-own v new p m x it is; owns = λ k is shared fast. owned-copy v new p m k c.map_of-map.ensures.map it is })
+    (record { marks = owned-marks v new p m c.map_of-map.ensures.map it; own = λ x is shared. owned-own v new p m x it is; owns = λ k is shared fast. owned-copy v new p m k c.map_of-map.ensures.map it is; details = fast-now (cause_in c.self.inside.kept.items p) (BecameGets v p) (no-cause c.self.inside.kept.items p fast) got })
+
+pub returns-clause-details : goal.returns-clause-details
+returns-clause-details g c =
+    let v = c.self.inside.heap.view in
+    let p = c.args.p in
+    let m = c.map_of-map.result in
+    let read : c.map_of-map.new.h.view ≡ v = ap (λ (s : HeapState g.row.P.Denot). s.view) c.map_of-map.ensures.new in
+    let new = c.take_own_map.new.h.view in
+    let shared : (root_in v.trail p).is_proto ≡ false = subst (λ (s : ObjectsState g.row.P.Denot). (root_in s.heap.view.trail p).is_proto ≡ false) (sym c.self.view_is) c.requires.shared in
+    subst (λ (s : ObjectsState g.row.P.Denot). DetailsAre (BecameGets s.heap.view p) s.heap.view.trail new.trail) c.self.view_is
+    (became-gets v new p m c.map_of-map.ensures.map shared
+    (subst (λ (w : View). DetailsAre (CopyGets true None w.trail m (count_of w.trail m) w.used.fields) w.trail new.trail) read c.take_own_map.ensures.details))

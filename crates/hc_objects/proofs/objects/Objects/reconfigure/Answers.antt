@@ -13,7 +13,7 @@ pub holds-requires-clause-place : goal.holds-requires-clause-place
 holds-requires-clause-place g c = named-there (props_at (world_of c.args.self.now) c.args.o) c.args.i c.args.p.name c.requires.name
 
 pub returns-then-holds-clause-did : goal.returns-then-holds-clause-did
-returns-then-holds-clause-did g c = nothing-put g.P.Pace.went g.met.P.Pace.stays c.args.self.now c.holds.new.self c.args.o c.args.i c.args.p c.requires.object (c.holds.ensures.same.0 c.if-holds.true) c.holds.ensures.still
+returns-then-holds-clause-did g c = nothing-put g.P.Pace.went g.met.P.Pace.stays c.args.self.now c.holds.new.self c.args.o c.args.i c.args.p c.stands.ensures.sound c.requires.object (c.holds.ensures.same.0 c.if-holds.true) c.holds.ensures.still
 
 pub put_other-requires-clause-other : goal.put_other-requires-clause-other
 put_other-requires-clause-other g c = subst (λ (s : ObjectsState g.row.P.Denot). slice_get (props_at (world_of s) c.args.o) c.args.i ≢ Some c.args.p) (sym c.holds.ensures.still.is)

@@ -1,5 +1,7 @@
 use Rattle.std.proofs.Common.{◌∙◌, sym}
 use Rattle.hc_objects.specs.Came.{world_of}
+use Rattle.hc_objects.specs.Details.{ChangedGets, WroteGets}
+use Rattle.hc_objects.proofs.Gets.{details-as}
 use Rattle.hc_objects.proofs.Altering.{put-same}
 use Rattle.hc_objects.proofs.objects.Objects.reconfigure_fast.Goals as goal
 
@@ -11,4 +13,11 @@ returns-clause-steps g c =
       shape = wrote.shape;
       goes = wrote.goes;
       went = wrote.went;
+      keeps = wrote.keeps;
     }
+
+pub returns-clause-details : goal.returns-clause-details
+returns-clause-details g c = λ other.
+    let a = c.args.self.now in
+    details-as (WroteGets a.heap.view.trail a.kept c.args.o c.args.i c.args.p.held) (ChangedGets a.heap.view.trail a.kept c.args.o c.args.i c.args.p)
+    (λ f d got. got.wrote) (λ f d got. record { other = other; same = c.requires.same; wrote = got }) c.write_fast.ensures.details

@@ -22,4 +22,4 @@ returns-then-is_last-clause-did g c =
     let shared : (root_in b.heap.view.trail o).is_proto ≡ false = subst (λ (s : ObjectsState g.row.P.Denot). (root_in s.heap.view.trail c.args.o).is_proto ≡ false) (sym still.is) (c.is_last.ensures.shared c.if-is_last.true) in
     let last : length (props_at (world_of b) o) ≡ i + 1 = subst (λ (s : ObjectsState g.row.P.Denot). length (props_at (world_of s) c.args.o) ≡ c.args.i + 1) (sym still.is) (c.is_last.ensures.last c.if-is_last.true) in
     made-before g.P.Pace.went a b d (Removed o i) still
-    (fast-made g.P.Pace.went b d (Removed o i) (c.remove_last.ensures.steps i last) c.remove_last.ensures.used c.remove_last.ensures.protos c.remove_last.ensures.marks (shrunk-one b d o i fast c.remove_last.ensures.kept shared last))
+    (fast-made g.P.Pace.went b d (Removed o i) (c.remove_last.ensures.steps i last) c.remove_last.ensures.used c.remove_last.ensures.protos c.remove_last.ensures.marks c.remove_last.ensures.details (shrunk-one b d o i fast c.remove_last.ensures.kept shared last))

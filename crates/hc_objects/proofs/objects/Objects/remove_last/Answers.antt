@@ -12,9 +12,12 @@ use Rattle.hc_table.specs.World.{props_at}
 use Rattle.hc_objects.specs.Came.{Steps}
 use Rattle.hc_objects.specs.Meaning.{kept_of, world}
 use Rattle.hc_objects.specs.State.{ObjectsState}
+use Rattle.hc_heap.specs.Readings.{detail_in}
+use Rattle.hc_objects.specs.Details.{DetailsAre, GetsNothing}
+use Rattle.hc_objects.proofs.Gets.{details-none, marked-detail}
 use Rattle.hc_objects.proofs.Shown.{within}
 use Rattle.hc_slots.specs.Cases.{some-is}
-use Rattle.hc_objects.proofs.Shrinking.{has-parent, map-there, parent-there, parent-filled, shrunk-world, shrunk-sound, parent-other}
+use Rattle.hc_objects.proofs.Shrinking.{has-parent, map-there, parent-there, parent-filled, shrunk-world, shrunk-sound, shrunk-facts, parent-other}
 use Rattle.hc_objects.proofs.Writing.{Laws, has-map}
 use Rattle.hc_objects.specs.Rest.{Marks}
 use Rattle.hc_objects.proofs.Marking.{left-marks}
@@ -202,6 +205,8 @@ returns-clause-steps g c =
       shape = ap (λ (w : View). w.shape) is;
       goes = goes-on first.desk c.map_of-map.new.h.desk c.move_to_parent.new.h.desk c.map_of-map.ensures.goes (goes-on c.map_of-map.new.h.desk c.parent.new.self.desk c.move_to_parent.new.h.desk c.parent.ensures.goes c.move_to_parent.ensures.goes);
       went = g.met.P.Pace.goes_on _ _ _ _ _ _ c.map_of-map.ensures.went (g.met.P.Pace.goes_on _ _ _ _ _ _ c.parent.ensures.went c.move_to_parent.ensures.went);
+      keeps = shrunk-facts laws v kept null c.self.invariant o there fast shared some m q is_map is_parent i last new is marked_tree marked_heap c.move_to_parent.ensures.heap
+          c.forms_are_kept.ensures.law c.stable_is_kept.ensures.law c.honest_after.ensures.law c.kept_is_carried.ensures.law c.moved_is_carried.ensures.law;
     })
 
 pub returns-clause-marks : goal.returns-clause-marks
@@ -226,3 +231,15 @@ returns-clause-marks g c =
     let is : new ≡ record v { trail = ObjectMap o (Some q) ∷ marked v.trail m } = c.move_to_parent.ensures.view ∙ ap (λ (w : View). let x : View = record w { trail = ObjectMap o (Some q) ∷ marked w.trail m } in x) again in
     subst (λ (s : ObjectsState g.row.P.Denot). Marks s.heap.view.trail new.trail o) c.self.view_is
     (left-marks v new o m (Some q) is is_map (parent-other laws v kept null c.self.invariant o there fast shared some m q is_map is_parent) (inl shared))
+
+pub returns-clause-details : goal.returns-clause-details
+returns-clause-details g c =
+    let v = c.self.inside.heap.view in
+    let o = c.args.o in
+    let m = c.map_of-map.result in
+    let q = c.unwrap-parent.result in
+    let again : c.parent.new.self.view ≡ v = ap (λ (s : HeapState g.row.P.Denot). s.view) c.parent.ensures.new ∙ ap (λ (s : HeapState g.row.P.Denot). s.view) c.map_of-map.ensures.new in
+    let new = c.move_to_parent.new.h.view in
+    let is : new ≡ record v { trail = ObjectMap o (Some q) ∷ marked v.trail m } = c.move_to_parent.ensures.view ∙ ap (λ (w : View). let x : View = record w { trail = ObjectMap o (Some q) ∷ marked w.trail m } in x) again in
+    subst (λ (s : ObjectsState g.row.P.Denot). DetailsAre GetsNothing s.heap.view.trail new.trail) c.self.view_is
+    (details-none (λ f. ap (λ (w : View). detail_in w.trail f) is ∙ marked-detail v.trail m f))

@@ -1,70 +1,95 @@
-use Rattle.std.proofs.Common.{◌≡◌, ◌∙◌, ℕ, ◌<◌, List, Option, Some, None, length, ap, sym, subst}
-use Rattle.hc_layout.specs.declared.shape.Shape.{Shape}
+use Rattle.std.proofs.Common.{◌≡◌, ◌<◌, Some, None, length, ap, sym, subst}
 use Rattle.hc_value.specs.Prop.{kind_of}
-use Rattle.hc_heap.specs.Readings.{bits_in, map_in, root_in}
-use Rattle.hc_heap.specs.States.{View}
+use Rattle.hc_heap.specs.Frames.{goes-on}
+use Rattle.hc_heap.specs.Readings.{root_in}
 use Rattle.hc_table.specs.Changes.{Wrote, kind_at}
-use Rattle.hc_table.specs.World.{World, props_at}
-use Rattle.hc_slots.specs.Meaning.{Dictionary}
-use Rattle.hc_objects.specs.Came.{IsStill, world_of}
-use Rattle.hc_objects.specs.Meaning.{kept_of}
+use Rattle.hc_table.specs.World.{props_at}
+use Rattle.hc_objects.specs.Came.{Steps}
+use Rattle.hc_objects.specs.Details.{DetailsAre, DetailsFirst, WroteGets}
+use Rattle.hc_objects.specs.Meaning.{kept_of, world}
+use Rattle.hc_objects.specs.Rest.{Marks}
 use Rattle.hc_objects.specs.State.{ObjectsState}
-use Rattle.hc_objects.proofs.Admitted.{admitted-bits, admitted-maps, admitted-roots, kind-place}
-use Rattle.hc_objects.proofs.Composing.{steps-on, still-steps}
+use Rattle.hc_objects.proofs.Admitted.{entry-there}
 use Rattle.hc_objects.proofs.Marking.{same-marks}
+use Rattle.hc_objects.proofs.Shown.{fast-has, within}
+use Rattle.hc_objects.proofs.Writing.{Laws, slot-there}
+use Rattle.hc_objects.proofs.Wrote.{IsWritten, asked-slot, asked-sound, is-written}
+use Rattle.hc_objects.proofs.objects.Objects.write_fast.Given.{Over}
 use Rattle.hc_objects.proofs.objects.Objects.write_fast.Goals as goal
 
-pub prop_at-was-requires-clause-place : goal.prop_at-was-requires-clause-place
-prop_at-was-requires-clause-place g c = kind-place (props_at (world_of c.args.self.now) c.args.o) c.args.i (kind_of c.args.held) c.requires.kind
-
-pub admit_held-requires : goal.admit_held-requires
-admit_held-requires g c =
-    let a = c.args.self.now in
-    let still : IsStill a c.prop_at-was.new.self = c.prop_at-was.ensures.still in
+pub ask_field-requires : goal.ask_field-requires
+ask_field-requires g c =
+    let laws : Laws = record { maps = c.maps_are_kept.ensures.law; details = c.details_rise.ensures.law; trees = c.trees_stay.ensures.law; unused = c.unused_says_nothing.ensures.law; gates = c.gates_are_open.ensures.law; changes = c.changes_keep.ensures.law } in
+    let v = c.self.inside.heap.view in
+    let kept = c.self.inside.kept.items in
+    let there : c.args.o < length kept = within _ _ c.args.o c.self.view_is c.requires.object in
+    let fast : kept_of kept c.args.o ≡ None = subst (λ (s : ObjectsState g.row.P.Denot). kept_of s.kept c.args.o ≡ None) (sym c.self.view_is) c.requires.fast in
+    let kind : kind_at (props_at (world v.trail kept) c.args.o) c.args.i ≡ Some (kind_of c.args.held) =
+    subst (λ (s : ObjectsState g.row.P.Denot). kind_at (props_at (world s.heap.view.trail s.kept) c.args.o) c.args.i ≡ Some (kind_of c.args.held)) (sym c.self.view_is) c.requires.kind in
     record {
-      object = subst (λ (s : ObjectsState g.row.P.Denot). c.args.o < length (world_of s)) (sym still.is) c.requires.object;
-      fast = subst (λ (s : ObjectsState g.row.P.Denot). kept_of s.kept c.args.o ≡ None) (sym still.is) c.requires.fast;
-      kind = subst (λ (s : ObjectsState g.row.P.Denot). kind_at (props_at (world_of s) c.args.o) c.args.i ≡ Some (kind_of c.args.held)) (sym still.is) c.requires.kind;
+      tree = c.self.invariant.tree;
+      fast = fast-has _ _ c.args.o c.self.view_is c.requires.object c.self.invariant c.requires.fast;
+      entry = entry-there laws.maps laws.details laws.unused v kept c.self.inside.of_null c.self.invariant c.args.o there fast c.args.i c.args.held kind;
+      slot = slot-there laws v kept c.self.inside.of_null c.self.invariant c.args.o there fast c.args.i c.args.held kind;
     }
 
-pub store_held-requires : goal.store_held-requires
-store_held-requires g c =
-    let a = c.args.self.now in
-    let still : IsStill a c.prop_at-was.new.self = c.prop_at-was.ensures.still in
-    let object = subst (λ (s : ObjectsState g.row.P.Denot). c.args.o < length (world_of s)) (sym still.is) c.requires.object in
-    let fast = subst (λ (s : ObjectsState g.row.P.Denot). kept_of s.kept c.args.o ≡ None) (sym still.is) c.requires.fast in
-    let kind = subst (λ (s : ObjectsState g.row.P.Denot). kind_at (props_at (world_of s) c.args.o) c.args.i ≡ Some (kind_of c.args.held)) (sym still.is) c.requires.kind in
+pub put_slot-requires : goal.put_slot-requires
+put_slot-requires g c =
+    let laws : Laws = record { maps = c.maps_are_kept.ensures.law; details = c.details_rise.ensures.law; trees = c.trees_stay.ensures.law; unused = c.unused_says_nothing.ensures.law; gates = c.gates_are_open.ensures.law; changes = c.changes_keep.ensures.law } in
+    let v = c.self.inside.heap.view in
+    let kept = c.self.inside.kept.items in
+    let there : c.args.o < length kept = within _ _ c.args.o c.self.view_is c.requires.object in
+    let fast : kept_of kept c.args.o ≡ None = subst (λ (s : ObjectsState g.row.P.Denot). kept_of s.kept c.args.o ≡ None) (sym c.self.view_is) c.requires.fast in
+    let kind : kind_at (props_at (world v.trail kept) c.args.o) c.args.i ≡ Some (kind_of c.args.held) =
+    subst (λ (s : ObjectsState g.row.P.Denot). kind_at (props_at (world s.heap.view.trail s.kept) c.args.o) c.args.i ≡ Some (kind_of c.args.held)) (sym c.self.view_is) c.requires.kind in
     record {
-      object = subst (λ (w : World). c.args.o < length w) (sym c.admit_held.ensures.steps.world) object;
-      fast = subst (λ (k : List (Option Dictionary)). kept_of k c.args.o ≡ None) (sym c.admit_held.ensures.kept) fast;
-      kind = subst (λ (w : World). kind_at (props_at w c.args.o) c.args.i ≡ Some (kind_of c.args.held)) (sym c.admit_held.ensures.steps.world) kind;
-      range = c.requires.range;
+      within = asked-slot laws v c.ask_field.new.h.view kept c.self.inside.of_null c.self.invariant c.args.o there fast c.args.i c.args.held kind c.ask_field.ensures.asked c.ask_field.ensures.tree c.ask_field.ensures.heap;
+      out = (asked-sound laws v c.ask_field.new.h.view kept c.self.inside.of_null c.self.invariant c.args.o there fast c.args.i c.args.held kind c.ask_field.ensures.asked c.ask_field.ensures.tree c.ask_field.ensures.heap).stores c.args.o;
     }
+
+whole : (g : Over) (c : goal.After-put_slot g) → IsWritten c.self.inside.heap.view c.put_slot.new.h.view c.self.inside.kept.items c.self.inside.of_null c.args.o c.args.i c.args.held
+whole g c =
+    let laws : Laws = record { maps = c.maps_are_kept.ensures.law; details = c.details_rise.ensures.law; trees = c.trees_stay.ensures.law; unused = c.unused_says_nothing.ensures.law; gates = c.gates_are_open.ensures.law; changes = c.changes_keep.ensures.law } in
+    let v = c.self.inside.heap.view in
+    let kept = c.self.inside.kept.items in
+    let there : c.args.o < length kept = within _ _ c.args.o c.self.view_is c.requires.object in
+    let fast : kept_of kept c.args.o ≡ None = subst (λ (s : ObjectsState g.row.P.Denot). kept_of s.kept c.args.o ≡ None) (sym c.self.view_is) c.requires.fast in
+    let kind : kind_at (props_at (world v.trail kept) c.args.o) c.args.i ≡ Some (kind_of c.args.held) =
+    subst (λ (s : ObjectsState g.row.P.Denot). kind_at (props_at (world s.heap.view.trail s.kept) c.args.o) c.args.i ≡ Some (kind_of c.args.held)) (sym c.self.view_is) c.requires.kind in
+    is-written laws v c.ask_field.new.h.view kept c.self.inside.of_null c.self.invariant c.args.o there fast c.args.i c.args.held kind c.ask_field.ensures.asked c.ask_field.ensures.tree c.ask_field.ensures.heap
+    c.forms_are_kept.ensures.law c.requires.range c.put_slot.new.h.view c.held_word-word.result c.held_word-word.ensures.form c.held_word-word.ensures.holds c.held_word-word.ensures.alone c.put_slot.ensures.view c.put_slot.ensures.heap
+
+pub invariant_of-self : goal.invariant_of-self
+invariant_of-self g c = (whole g c).sound
 
 pub returns-clause-steps : goal.returns-clause-steps
 returns-clause-steps g c =
-    let a = c.args.self.now in
-    let b = c.prop_at-was.new.self in
-    let law = g.met.P.Pace.goes_on in
-    steps-on g.P.Pace.went law a b c.store_held.new.self (Wrote c.args.o c.args.i c.args.held)
-    (still-steps g.P.Pace.went g.met.P.Pace.stays a b c.prop_at-was.ensures.still)
-    (steps-on g.P.Pace.went law b c.admit_held.new.self c.store_held.new.self (Wrote c.args.o c.args.i c.args.held) c.admit_held.ensures.steps c.store_held.ensures.steps)
+    let all = whole g c in
+    let after : ObjectsState g.row.P.Denot = record { heap = c.put_slot.new.h; kept = c.self.inside.kept.items; of_null = c.self.inside.of_null } in
+    subst (λ (s : ObjectsState g.row.P.Denot). Steps g.P.Pace.went s (Wrote c.args.o c.args.i c.args.held) after) c.self.view_is (record {
+      world = all.world_is;
+      shape = all.shape;
+      goes = goes-on c.self.inside.heap.desk c.ask_field.new.h.desk c.put_slot.new.h.desk c.ask_field.ensures.goes c.put_slot.ensures.goes;
+      went = g.met.P.Pace.goes_on _ _ _ _ _ _ c.ask_field.ensures.went c.put_slot.ensures.went;
+      keeps = all.facts c.honest_after.ensures.law c.kept_is_carried.ensures.law c.stored_is_given.ensures.law c.storing_keeps_constants.ensures.law;
+    })
 
 pub returns-clause-used : goal.returns-clause-used
-returns-clause-used g c =
-    c.store_held.ensures.used ∙ (ap (λ (v : View). v.used) c.admit_held.ensures.admitted.view ∙ ap (λ (s : ObjectsState g.row.P.Denot). s.heap.view.used) c.prop_at-was.ensures.still.is)
+returns-clause-used g c = subst (λ (s : ObjectsState g.row.P.Denot). c.put_slot.new.h.view.used ≡ s.heap.view.used) c.self.view_is (whole g c).used
 
 pub returns-clause-protos : goal.returns-clause-protos
 returns-clause-protos g c q =
-    let b = c.prop_at-was.new.self.heap.view in
-    ap (λ r. r.is_proto) (c.store_held.ensures.roots q ∙ (admitted-roots b c.admit_held.new.self.heap.view c.args.o c.args.i c.args.held c.constness_for-constness.result c.admit_held.ensures.admitted q
-    ∙ ap (λ (s : ObjectsState g.row.P.Denot). root_in s.heap.view.trail q) c.prop_at-was.ensures.still.is))
+    subst (λ (s : ObjectsState g.row.P.Denot). (root_in c.put_slot.new.h.view.trail q).is_proto ≡ (root_in s.heap.view.trail q).is_proto) c.self.view_is (ap (λ r. r.is_proto) ((whole g c).roots q))
 
 pub returns-clause-marks : goal.returns-clause-marks
 returns-clause-marks g c =
-    let b = c.prop_at-was.new.self.heap.view in
-    same-marks c.args.self.now.heap.view.trail c.store_held.new.self.heap.view.trail c.args.o
-    (λ m. c.store_held.ensures.bits m ∙ (admitted-bits b c.admit_held.new.self.heap.view c.args.o c.args.i c.args.held c.constness_for-constness.result c.admit_held.ensures.admitted m
-    ∙ ap (λ (s : ObjectsState g.row.P.Denot). bits_in s.heap.view.trail m) c.prop_at-was.ensures.still.is))
-    (λ q. c.store_held.ensures.maps q ∙ (admitted-maps b c.admit_held.new.self.heap.view c.args.o c.args.i c.args.held c.constness_for-constness.result c.admit_held.ensures.admitted q
-    ∙ ap (λ (s : ObjectsState g.row.P.Denot). map_in s.heap.view.trail q) c.prop_at-was.ensures.still.is))
+    let all = whole g c in
+    subst (λ (s : ObjectsState g.row.P.Denot). Marks s.heap.view.trail c.put_slot.new.h.view.trail c.args.o) c.self.view_is
+    (same-marks c.self.inside.heap.view.trail c.put_slot.new.h.view.trail c.args.o all.bits all.maps)
+
+pub returns-clause-details : goal.returns-clause-details
+returns-clause-details g c =
+    subst (λ (s : ObjectsState g.row.P.Denot). DetailsAre (WroteGets s.heap.view.trail s.kept c.args.o c.args.i c.args.held) s.heap.view.trail c.put_slot.new.h.view.trail) c.self.view_is (whole g c).details
+
+pub returns-clause-order : goal.returns-clause-order
+returns-clause-order g c = subst (λ (s : ObjectsState g.row.P.Denot). DetailsFirst s.heap.view.trail c.put_slot.new.h.view.trail) c.self.view_is (whole g c).order
