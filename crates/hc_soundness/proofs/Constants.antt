@@ -1,5 +1,5 @@
 -- The words of constants, at a later moment.
-use Rattle.std.proofs.Common.{◌≡◌, ℕ, ◌+◌, ◌<◌, Bool, true, false, true≢false, List, [], ◌∷◌, Some, refl, sym, ◌∙◌, subst}
+use Rattle.std.proofs.Common.{◌≡◌, ℕ, ◌+◌, ◌<◌, List, [], ◌∷◌, Some, sym, ◌∙◌, subst}
 use Rattle.std.specs.List.{AllByRecursion}
 use Rattle.std.specs.Prelude.{IsSomeAnd}
 use Rattle.hc_layout.specs.declared.shape.Shape.{Shape}
@@ -9,11 +9,8 @@ use Rattle.hc_value.specs.declared.field.Constness.TheVariants.{Const}
 use Rattle.hc_value.specs.declared.field.Detail.{Detail}
 use Rattle.hc_value.specs.declared.field.Rep.{Rep}
 use Rattle.hc_heap.specs.Writes.{Trail}
-use Rattle.hc_heap.specs.Readings.{bits_in, detail_in, map_in, store_in}
-use Rattle.hc_heap.specs.Lawful.{IsField, RisesTo}
-use Rattle.hc_heap.specs.Kept.{GoesOn, WrittenIsKept, EntriesAreKept, SetIsKept, StableIsKept, DetailsRise, GatesAreOpen}
-use Rattle.hc_heap.specs.Frames.{lawful-before}
-use Rattle.hc_descs.specs.Entries.{field_at}
+use Rattle.hc_heap.specs.Readings.{detail_in, map_in, store_in}
+use Rattle.hc_heap.specs.Kept.{GoesOn, StableIsKept}
 use Rattle.hc_plan.specs.Chains.{Hop}
 use Rattle.hc_plan.specs.Deps.{way_deps, class_deps}
 use Rattle.hc_plan.specs.Laws.{CaseHolds}
@@ -28,11 +25,9 @@ use Rattle.hc_deps.specs.Trails.{HoldsWordIn, HoldsIn, HoldsButValueIn}
 use Rattle.hc_soundness.specs.Moments.{Now, IsToldNow}
 use Rattle.hc_soundness.specs.Told.{HasConstant, ToldWay}
 use Rattle.hc_soundness.proofs.Holding.{constant-word}
-use Rattle.hc_soundness.proofs.Keeping.{gate-on, key-on, field-on}
 use Rattle.hc_soundness.proofs.Lists.{all-back}
-use Rattle.hc_soundness.proofs.Options.{some-and, some-at, some-of, is-some}
+use Rattle.hc_soundness.proofs.Options.{some-and, is-some}
 use Rattle.hc_soundness.proofs.Presently.{IsStableMap, AreStable}
-use Rattle.hc_soundness.proofs.Rising.{const-before}
 
 -- What a case that was told depends on holds, where all but the words of slots is known to
 
@@ -85,37 +80,3 @@ case-holds-on stable s old new goes constants op name case told was now = record
   chain = now.chain;
   way = way-holds-on stable s old new goes constants name case.map case.chain now.chain op case.way told.way was.way now.way;
 }
-
--- Constants over several steps
-
-module _ (written : WrittenIsKept) (entries : EntriesAreKept) (set : SetIsKept) (stable : StableIsKept) (rise : DetailsRise) (gates : GatesAreOpen)
-    (s : Shape) (old middle new : Trail) (first : GoesOn s old middle) (second : GoesOn s middle new) where
-  stable-before : (m : ℕ) (b : Bool) → (bits_in middle m).unstable ≡ b → (bits_in new m).unstable ≡ false → b ≡ false
-  stable-before m true is now = absurd (true≢false (sym ((set s middle new second).unstable m is) ∙ now))
-  stable-before m false is now = refl
-
-  datum-on : (o m k f : ℕ) → (bits_in middle m).unstable ≡ false → HasDatum old o m k f → HasDatum middle o m k f
-  datum-on o m k f calm h = record {
-    has = (stable s old middle o m first h.has calm).map;
-    gate = h.gate;
-    is_open = gate-on written entries s old middle first m h.gate h.is_open;
-    within = h.within;
-    key = h.key;
-    is_key = key-on written entries s old middle first m k h.gate h.key h.is_open h.within h.is_key;
-    datum = h.datum;
-    field = field-on written entries s old middle first m k h.gate f h.is_open h.within h.field;
-  }
-
-  const-middle : (o m k f : ℕ) → HasDatum middle o m k f → (d : Detail) → detail_in new f ≡ Some d → d.constness ≡ Const → (e : Detail) × (detail_in middle f ≡ Some e) × (e.constness ≡ Const)
-  const-middle o m k f h d is const =
-      let made = some-at (λ x. IsField middle x) (field_at middle m k) f h.field ((gates s middle m h.gate (lawful-before s second) h.is_open).entries.fields k h.within) in
-      let e = some-of (detail_in middle f) made.detail in
-      let rises : RisesTo e.0 d = some-at (λ x. RisesTo e.0 x) (detail_in new f) d is (rise s middle new f e.0 second e.1) in
-      (e.0, e.1, const-before e.0 d rises const)
-
-  pub constants-on : ConstantsStay old middle → ConstantsStay middle new → ConstantsStay old new
-  constants-on a b o m k f d h is const calm =
-      let before = stable-before m (bits_in middle m).unstable refl calm in
-      let middle_datum = datum-on o m k f before h in
-      let e = const-middle o m k f middle_datum d is const in
-      b o m k f d middle_datum is const calm ∙ a o m k f e.0 h e.1 e.2 before

@@ -26,10 +26,6 @@ stays-mutable : (c : Constness) → is_constness_within Mutable c ≡ true → c
 stays-mutable Mutable h = refl
 stays-mutable Const h = absurd (true≢false (sym h))
 
-was-const : (c : Constness) → is_constness_within c Const ≡ true → c ≡ Const
-was-const Const h = refl
-was-const Mutable h = absurd (true≢false (sym h))
-
 stays-any : (c : Class) → is_class_within Any c ≡ true → c ≡ Any
 stays-any Any h = refl
 stays-any (Of m) h = absurd (true≢false (sym h))
@@ -47,10 +43,6 @@ module _ (d e : Detail) (rises : RisesTo d e) where
   -- a mutable field stays so
   pub mutable-on : d.constness ≡ Mutable → e.constness ≡ Mutable
   mutable-on is = stays-mutable e.constness (subst (λ c. is_constness_within c e.constness ≡ true) is constness-rises)
-
-  -- a constant one was so
-  pub const-before : e.constness ≡ Const → d.constness ≡ Const
-  const-before is = was-const d.constness (subst (λ c. is_constness_within d.constness c ≡ true) is constness-rises)
 
   -- a field of any class stays so
   pub any-on : d.class ≡ Any → e.class ≡ Any

@@ -2,7 +2,6 @@ pub mod Answers
 pub mod Applied
 pub mod Borne
 pub mod Breaks
-pub mod Constants
 pub mod Finding
 pub mod Installed
 pub mod Laws

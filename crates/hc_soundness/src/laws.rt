@@ -1,7 +1,6 @@
 //! Why an installed plan is right. The functions do nothing: each has a law as its contract, for a proof that calls it.
 ghost use Rattle.hc_soundness.specs.Applied.{AppliedIsRight, BorneCanApply};
 ghost use Rattle.hc_soundness.specs.Breaks.{OthersAreUnbroken, QuietBreaksNone, SameSubjectsHold};
-ghost use Rattle.hc_soundness.specs.Constants.{ConstantsStayOn};
 ghost use Rattle.hc_soundness.specs.Installed.{InstalledIsBorne, ToldAtOnceHolds, UnbrokenIsBorne};
 ghost use Rattle.hc_soundness.specs.Laws.{BorneIsKept, BorneIsRight, BorneNamesLive, ObjectsRest, OwnIsBorne, SeenIsBorne, SeenIsKept, ToldIsBorne, ToldIsReadable, ToldIsSeen};
 ghost use Rattle.hc_soundness.specs.Reads.{ReadsAreSeen, ReadsAreTold, ToldIsOfSite};
@@ -10,8 +9,8 @@ use hc_board::now_is_image;
 use hc_deps::holds_as_the_trail_says;
 use hc_heap::{
     deprecated_are_unstable, details_rise, entries_are_kept, forms_are_kept, gates_are_open,
-    positions_go_on, set_is_kept, stable_is_kept, stores_are_writes, unused_says_nothing,
-    words_say, writes_are_within, written_is_kept,
+    positions_go_on, stable_is_kept, stores_are_writes, unused_says_nothing, words_say,
+    writes_are_within, written_is_kept,
 };
 use hc_links::{links_are_chained, links_are_kept, links_lead, same_keys_are_equal};
 
@@ -87,18 +86,6 @@ pub fn borne_is_kept()
     stable_is_kept();
     told_is_seen();
     seen_is_borne();
-}
-
-/// Constants stay over one step and a further one.
-pub fn constants_stay_on()
-    ensures law { ConstantsStayOn }
-{
-    written_is_kept();
-    entries_are_kept();
-    set_is_kept();
-    stable_is_kept();
-    details_rise();
-    gates_are_open();
 }
 
 /// Objects between two commands are at rest.

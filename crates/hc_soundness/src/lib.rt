@@ -9,8 +9,8 @@ mod laws;
 
 pub use laws::{
     applied_is_right, borne_can_apply, borne_is_kept, borne_is_right, borne_names_live,
-    constants_stay_on, installed_is_borne, objects_rest, others_are_unbroken, own_is_borne,
-    quiet_breaks_none, reads_are_seen, reads_are_told, same_subjects_hold, seen_is_borne,
-    seen_is_kept, told_at_once_holds, told_is_borne, told_is_of_site, told_is_readable,
-    told_is_seen, unbroken_is_borne,
+    installed_is_borne, objects_rest, others_are_unbroken, own_is_borne, quiet_breaks_none,
+    reads_are_seen, reads_are_told, same_subjects_hold, seen_is_borne, seen_is_kept,
+    told_at_once_holds, told_is_borne, told_is_of_site, told_is_readable, told_is_seen,
+    unbroken_is_borne,
 };
