@@ -1,5 +1,5 @@
 -- The words of a command have plain bytes alone.
-use Rattle.std.proofs.Common.{◌≡◌, ℕ, suc, ◌<◌, ◌≤◌, ◌^◌, Bool, true, false, List, [], ◌∷◌, ◌++◌, refl, ◌∙◌, arith, ◌&&◌, Option, Some, None}
+use Rattle.std.proofs.Common.{◌≡◌, ℕ, suc, ◌<◌, ◌≤◌, ◌^◌, Bool, true, false, List, [], ◌∷◌, ◌++◌, refl, arith, ◌&&◌, Option, Some, None}
 use Rattle.std.specs.Prelude.{ℤ, pos, negsuc}
 use Rattle.std.specs.List.{list_all}
 use Rattle.std.specs.Fmt.{decimal, signed_decimal}
@@ -10,11 +10,11 @@ use Rattle.hc_commands.specs.Words.{is_plain_byte, IsPlain, ArePlain}
 use Rattle.hc_commands.specs.Numeral.{all_digits}
 use Rattle.hc_commands.specs.Values.{begins_name, continues_name, IsName, is_text_byte, IsText, WrittenValue, written_undefined, written_null, written_boolean, written_integer, written_text, written_object, IsWrittenValue, IsGivenValue, object_word, text_word, boolean_word, value_word}
 use Rattle.hc_commands.specs.Token.{IsPrototype, prototype_word, IsAccessor, accessor_word, op_word, AreReads, reads_word}
-use Rattle.hc_commands.specs.Definition.{Description, Given, given_value, given_writable, given_getter, given_setter, given_enumerable, given_configurable, IsGiven, key_of, key_word, given_word, TakesField, Gives, no_fields}
+use Rattle.hc_commands.specs.Definition.{Description, Given, given_value, given_writable, given_getter, given_setter, given_enumerable, given_configurable, IsGiven, key_of, key_word, given_word, Gives, no_fields}
 use Rattle.hc_commands.specs.Verbs.{verb_word}
 use Rattle.hc_commands.specs.Grammar.{Form, new_object, link_prototype, ask_property, set_value, define_property, ask_object, compare_objects, declare_site, execute_site, compile_site, step_job, step_during, finish_job, verb_of, IsForm, given_words, AreParts, IsSpelled}
-use Rattle.hc_commands.specs.declared.command.Op.{Op}
-use Rattle.hc_commands.specs.declared.command.Op.TheVariants.{Load, Store}
+use Rattle.hc_plan.specs.declared.case.Op.{Op}
+use Rattle.hc_plan.specs.declared.case.Op.TheVariants.{Load, Store}
 use Rattle.hc_commands.specs.declared.command.Reads.{Reads}
 use Rattle.hc_commands.specs.declared.command.Reads.TheVariants.{Count, All}
 use Rattle.hc_commands.specs.declared.definition.Key.{Key}

@@ -12,8 +12,8 @@ use Rattle.hc_commands.specs.Token.{IsPrototype, prototype_word, IsAccessor, acc
 use Rattle.hc_commands.specs.VerbTable.{look_up}
 use Rattle.hc_commands.specs.Verbs.{verb_word}
 use Rattle.hc_commands.specs.declared.verb.TheConstants.{VERBS}
-use Rattle.hc_commands.specs.declared.command.Op.{Op}
-use Rattle.hc_commands.specs.declared.command.Op.TheVariants.{Load, Store}
+use Rattle.hc_plan.specs.declared.case.Op.{Op}
+use Rattle.hc_plan.specs.declared.case.Op.TheVariants.{Load, Store}
 use Rattle.hc_commands.specs.declared.command.Reads.{Reads}
 use Rattle.hc_commands.specs.declared.command.Reads.TheVariants.{Count, All}
 use Rattle.hc_commands.specs.declared.verb.PropertyVerb.TheVariants.{Get, Has, Own, Delete}

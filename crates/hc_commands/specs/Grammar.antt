@@ -6,7 +6,7 @@ use Rattle.hc_commands.specs.Values.{IsName, WrittenValue, IsWrittenValue, IsGiv
 use Rattle.hc_commands.specs.Token.{IsPrototype, prototype_word, op_word, AreReads, reads_word, IsDistance}
 use Rattle.hc_commands.specs.Definition.{Description, IsDescription, mixes_kinds, no_fields, Gives, descriptor_of}
 use Rattle.hc_commands.specs.Verbs.{verb_word}
-use Rattle.hc_commands.specs.declared.command.Op.{Op}
+use Rattle.hc_plan.specs.declared.case.Op.{Op}
 use Rattle.hc_commands.specs.declared.command.Reads.{Reads}
 use Rattle.hc_commands.specs.declared.command.Command.{Command}
 use Rattle.hc_commands.specs.declared.command.Command.TheVariants.{New as NewCommand, Get as GetCommand, Set as SetCommand, Define as DefineCommand, Has as HasCommand, Own as OwnCommand, Delete as DeleteCommand, Keys as KeysCommand, Proto as ProtoCommand, SetProto as SetProtoCommand, Extensible as ExtensibleCommand, Lock as LockCommand, Seal as SealCommand, Freeze as FreezeCommand, Shape as ShapeCommand, Same as SameCommand, Declare as DeclareCommand, Exec as ExecCommand, Compile as CompileCommand, Step as StepCommand, During as DuringCommand, Finish as FinishCommand}

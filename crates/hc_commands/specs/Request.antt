@@ -1,7 +1,7 @@
 -- What the code keeps of a line, as a form.
 use Rattle.std.specs.Prelude.{◌≡◌, ℕ, ◌<◌, ◌^◌, List, [], ◌∷◌, Option, Some, None, false}
 use Rattle.std.specs.Fmt.{decimal}
-use Rattle.hc_commands.specs.declared.command.Op.{Op}
+use Rattle.hc_plan.specs.declared.case.Op.{Op}
 use Rattle.hc_commands.specs.declared.command.Reads.{Reads}
 use Rattle.hc_commands.specs.declared.definition.Definition.{Definition}
 use Rattle.hc_commands.specs.declared.grammar.Request.{Request}

@@ -2,8 +2,8 @@
 use Rattle.std.specs.Prelude.{ℕ, ◌<◌, ◌≤◌, ◌^◌, List, ◌∷◌, Option, Some, None, codes}
 use Rattle.std.specs.Fmt.{decimal}
 use Rattle.hc_commands.specs.Values.{object_word}
-use Rattle.hc_commands.specs.declared.command.Op.{Op}
-use Rattle.hc_commands.specs.declared.command.Op.TheVariants.{Load, Store}
+use Rattle.hc_plan.specs.declared.case.Op.{Op}
+use Rattle.hc_plan.specs.declared.case.Op.TheVariants.{Load, Store}
 use Rattle.hc_commands.specs.declared.command.Reads.{Reads}
 use Rattle.hc_commands.specs.declared.command.Reads.TheVariants.{Count, All}
 

@@ -1,11 +1,5 @@
+use hc_plan::Op;
 use hc_value::{PropDesc, Value};
-
-/// Whether a site reads or writes its property.
-#[derive(Clone, Copy)]
-pub enum Op {
-    Load,
-    Store,
-}
 
 /// How many reads a job makes.
 #[derive(Clone, Copy)]

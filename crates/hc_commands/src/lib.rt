@@ -15,8 +15,9 @@ mod verb;
 mod words;
 mod written;
 
-pub use command::{Command, Op, Reads};
+pub use command::{Command, Reads};
 pub use grammar::{Request, request_of};
+pub use hc_plan::Op;
 pub use numbering::command_for;
 pub use verb::{ObjectVerb, PropertyVerb, Verb};
 pub use words::is_passed_over;

@@ -2,7 +2,7 @@
 use Rattle.std.specs.Prelude.{ℕ, zero, suc, ◌+◌, ◌-◌, ◌*◌, ◌/◌, ◌%◌, ◌^◌, ◌==◌, nat_le, nat_lt, Bool, true, false, if◌then◌else◌, List, [], ◌∷◌, ◌++◌, length, map, replicate, count_by, slice_index_or, Some, None, pos, negsuc, codes}
 use Rattle.hc_value.specs.declared.value.Value.{Value}
 use Rattle.hc_commands.specs.Values.{WrittenValue, written_undefined, written_boolean, written_integer, written_text, written_object, value_of}
-use Rattle.hc_commands.specs.declared.command.Op.TheVariants.{Load, Store}
+use Rattle.hc_plan.specs.declared.case.Op.TheVariants.{Load, Store}
 use Rattle.hc_commands.specs.declared.command.Command.{Command}
 use Rattle.hc_commands.specs.declared.command.Command.TheVariants.{New, Get, Set, Delete, SetProto, Declare, Exec, Compile, Finish}
 use Rattle.hc_script.specs.declared.generator.draws.Draws.{Draws}

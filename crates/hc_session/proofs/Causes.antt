@@ -1,6 +1,5 @@
 -- The status of a replay tells of its first refused line, or that there is none.
 use Rattle.std.proofs.Common.{◌≡◌, ℕ, List, ◌∷◌, ◌++◌, refl, sym, ◌∙◌, ap, arith, Option, Some, None, IfSome, append-nil}
-use Rattle.hc_value.specs.declared.reply.Reply.{Reply}
 use Rattle.hc_lines.specs.Lines.{lines_of, TakesLines}
 use Rattle.hc_lines.specs.Outside.{Rose, IsAtEnd}
 use Rattle.hc_script.specs.Reading.{Position, IsRefused, the_start}
@@ -8,6 +7,7 @@ use Rattle.hc_commands.specs.declared.command.Command.{Command}
 use Rattle.hc_script.specs.declared.fault.What.{What}
 use Rattle.hc_script.specs.declared.fault.Status.{Status}
 use Rattle.hc_script.specs.declared.fault.Status.TheVariants.{Done, BadWords, BadScript, ReadFault, WriteFault, Memory}
+use Rattle.hc_session.specs.Plain.{Answer}
 use Rattle.hc_session.specs.Output.{Outside, Place, AnswersAll, AnswersUntilRefused}
 use Rattle.hc_session.specs.Replay.{the_first_place, EndsRun, AreAccepted, IsFirstRefused, AreAllAccepted, IsCutShort}
 use Rattle.hc_session.proofs.FirstRefused.{OneMeaning, together, before, behind, two_splits, accepted_all_once, none_refused_among, answered_accepted}
@@ -18,7 +18,7 @@ all_lines : (bytes : List ℕ) (left : Option (List ℕ)) (lines : List (List �
 all_lines bytes None lines taken ended = absurd taken
 all_lines bytes (Some left) lines taken ended = taken ∙ ap (λ (rest : List ℕ). lines ++ lines_of rest) ended ∙ append-nil lines
 
-module _ {S : Type 0} (does : S → Command → Reply → S → Type 0) (ends stays : Place S → Type 0) (law : OneMeaning) (state : S) where
+module _ {S : Type 0} (does : S → Command → Answer → S → Type 0) (ends stays : Place S → Type 0) (law : OneMeaning) (state : S) where
   -- a script that was answered to its end has no refused line
   done_unrefused : (bytes : List ℕ) (left : Option (List ℕ)) (text : List ℕ) (end : Place S) (n : ℕ) (what : What) → AnswersAll does (the_first_place state) (Some bytes) left text end → IsFirstRefused bytes n what → ⊥
   done_unrefused bytes left text end n what all first =

@@ -1,6 +1,5 @@
 -- What a replay has written, by how it ends.
 use Rattle.std.proofs.Common.{◌≡◌, ◌∙◌, ℕ, ◌+◌, List, [], ◌∷◌, ◌++◌, refl, ap, Option, Some, None, Err}
-use Rattle.hc_value.specs.declared.reply.Reply.{Reply}
 use Rattle.hc_lines.specs.Lines.{TakesLines, ahead}
 use Rattle.hc_lines.specs.Outside.{IsAtEnd}
 use Rattle.hc_script.specs.Reading.{Position, TakesCommand, TakesEnd, TakesRefused, TakesUntilFault, Serves}
@@ -10,8 +9,8 @@ use Rattle.hc_script.specs.declared.fault.ScriptFault.{ScriptFault}
 use Rattle.hc_script.specs.declared.fault.ScriptFault.TheVariants.{Bad, Read, Memory as NoMemory}
 use Rattle.hc_script.specs.declared.fault.Status.{Status}
 use Rattle.hc_script.specs.declared.fault.Status.TheVariants.{BadScript, ReadFault}
-use Rattle.hc_report.specs.Text.{reply_line}
 use Rattle.hc_session.specs.Fault.{refusal_line, read_line}
+use Rattle.hc_session.specs.Plain.{Answer, answer_text}
 use Rattle.hc_session.specs.Output.{Outside, Place, Answers, AnswersUntilRefused, AnswersUntilFault, AppendsFront}
 use Rattle.hc_session.specs.Progress.{Progress, EndsByFault}
 use Rattle.hc_session.specs.Replay.{EndsRun, EndsDone, EndsInWant, FailsInReply, EndsWith}
@@ -32,7 +31,7 @@ pub nothing_held : (left : Option (List ℕ)) → ahead [] left ≡ left
 nothing_held None = refl
 nothing_held (Some left) = refl
 
-module _ {S : Type 0} (does : S → Command → Reply → S → Type 0) (start : Place S) (ends stays : Place S → Type 0) (a b : Outside) where
+module _ {S : Type 0} (does : S → Command → Answer → S → Type 0) (start : Place S) (ends stays : Place S → Type 0) (a b : Outside) where
   -- want of memory between two commands: all that was answered was written
   pub ends_in_want : (at : Position) (state : S) (ahead_then : Option (List ℕ)) → Progress does start a.left a.taken at state ahead_then b.taken → ((lines : List (List ℕ)) (text : List ℕ) (place : Place S) → Answers does start lines text place → place.state ≡ state → stays place) → EndsInWant start a b does ends stays
   ends_in_want at state ahead_then so_far stay = record {
@@ -45,7 +44,7 @@ module _ {S : Type 0} (does : S → Command → Reply → S → Type 0) (start :
   }
 
 -- a run that comes to the state which it leaves; where its lines are answered all holds that holds at an end
-module _ {S : Type 0} (does : S → Command → Reply → S → Type 0) (start : Place S) (ends stays : Place S → Type 0) (new : S) (reaches : (lines : List (List ℕ)) (text : List ℕ) (end : Place S) → Answers does start lines text end → end.state ≡ new → ends end) (a b : Outside) where
+module _ {S : Type 0} (does : S → Command → Answer → S → Type 0) (start : Place S) (ends stays : Place S → Type 0) (new : S) (reaches : (lines : List (List ℕ)) (text : List ℕ) (end : Place S) → Answers does start lines text end → end.state ≡ new → ends end) (a b : Outside) where
   -- the script is at its end
   pub ends_done : (at after : Position) (ahead_then : Option (List ℕ)) (pending : List ℕ) → Progress does start a.left a.taken at new ahead_then b.taken → TakesEnd at ahead_then after (ahead pending b.left) → EndsDone start a b does ends
   ends_done at after ahead_then pending so_far took =
@@ -61,10 +60,10 @@ module _ {S : Type 0} (does : S → Command → Reply → S → Type 0) (start :
       }
 
   -- want of memory for the reply of a command that was performed
-  pub ends_unwritten : (at after : Position) (state : S) (ahead_then ahead_now : Option (List ℕ)) (command : Command) (reply : Reply) → Progress does start a.left a.taken at state ahead_then b.taken → TakesCommand at ahead_then command after ahead_now → does state command reply new → EndsInWant start a b does ends stays
-  ends_unwritten at after state ahead_then ahead_now command reply so_far took done =
+  pub ends_unwritten : (at after : Position) (state : S) (ahead_then ahead_now : Option (List ℕ)) (command : Command) (answer : Answer) → Progress does start a.left a.taken at state ahead_then b.taken → TakesCommand at ahead_then command after ahead_now → does state command answer new → EndsInWant start a b does ends stays
+  ends_unwritten at after state ahead_then ahead_now command answer so_far took done =
       let there = command_there does start a.left a.taken at state ahead_then ahead_now b.taken command after so_far took in
-      let line = command_line does at state new so_far.begun ahead_then ahead_now command after reply took done in
+      let line = command_line does at state new so_far.begun ahead_then ahead_now command after answer took done in
       let answers = answers_passed does start at took.there so_far.begun state so_far.lines took.passed so_far.text so_far.answers took.are_passed in
       record {
         lines = so_far.lines ++ took.passed;
@@ -73,28 +72,28 @@ module _ {S : Type 0} (does : S → Command → Reply → S → Type 0) (start :
         answers = record { there = fronts a.left (so_far.lines ++ took.passed) (took.line ∷ []) there; answers = answers };
         written = so_far.written;
         leaves = inr (
-          reply_line after.names reply,
+          answer_text after.names answer,
           record { at = after; begun = so_far.begun + 1; state = new },
           record { line = took.line; there = there; next = line },
-          reaches _ _ _ (answers_both does start _ _ (so_far.lines ++ took.passed) (took.line ∷ []) so_far.text (reply_line after.names reply) answers (one_line does _ _ took.line _ line)) refl,
+          reaches _ _ _ (answers_both does start _ _ (so_far.lines ++ took.passed) (took.line ∷ []) so_far.text (answer_text after.names answer) answers (one_line does _ _ took.line _ line)) refl,
         );
       }
 
   -- a write failed in the midst of a reply
-  pub ends_in_reply : (at after : Position) (state : S) (ahead_then ahead_now now : Option (List ℕ)) (command : Command) (reply : Reply) → Progress does start a.left a.taken at state ahead_then now → TakesCommand at ahead_then command after ahead_now → does state command reply new → AppendsFront now (reply_line after.names reply) b.taken → FailsInReply start a b does ends
-  ends_in_reply at after state ahead_then ahead_now now command reply so_far took done written =
+  pub ends_in_reply : (at after : Position) (state : S) (ahead_then ahead_now now : Option (List ℕ)) (command : Command) (answer : Answer) → Progress does start a.left a.taken at state ahead_then now → TakesCommand at ahead_then command after ahead_now → does state command answer new → AppendsFront now (answer_text after.names answer) b.taken → FailsInReply start a b does ends
+  ends_in_reply at after state ahead_then ahead_now now command answer so_far took done written =
       let there = command_there does start a.left a.taken at state ahead_then ahead_now now command after so_far took in
-      let line = command_line does at state new so_far.begun ahead_then ahead_now command after reply took done in
+      let line = command_line does at state new so_far.begun ahead_then ahead_now command after answer took done in
       let answers = answers_passed does start at took.there so_far.begun state so_far.lines took.passed so_far.text so_far.answers took.are_passed in
       record {
         lines = so_far.lines ++ took.passed;
         text = so_far.text;
         place = record { at = took.there; begun = so_far.begun; state = state };
-        more = reply_line after.names reply;
+        more = answer_text after.names answer;
         end = record { at = after; begun = so_far.begun + 1; state = new };
         answers = record { there = fronts a.left (so_far.lines ++ took.passed) (took.line ∷ []) there; answers = answers };
         next = record { line = took.line; there = there; next = line };
-        at_end = reaches _ _ _ (answers_both does start _ _ (so_far.lines ++ took.passed) (took.line ∷ []) so_far.text (reply_line after.names reply) answers (one_line does _ _ took.line _ line)) refl;
+        at_end = reaches _ _ _ (answers_both does start _ _ (so_far.lines ++ took.passed) (took.line ∷ []) so_far.text (answer_text after.names answer) answers (one_line does _ _ took.line _ line)) refl;
         written = (now, so_far.written, written);
       }
 

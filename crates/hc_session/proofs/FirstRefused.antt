@@ -1,9 +1,9 @@
 -- There is one first line that is refused.
 use Rattle.std.proofs.Common.{◌≡◌, ℕ, List, [], ◌∷◌, ◌++◌, refl, sym, ◌∙◌, ap}
-use Rattle.hc_value.specs.declared.reply.Reply.{Reply}
 use Rattle.hc_script.specs.Reading.{Position, IsPassed, IsAsked, IsRefused}
 use Rattle.hc_commands.specs.declared.command.Command.{Command}
 use Rattle.hc_script.specs.declared.fault.What.{What}
+use Rattle.hc_session.specs.Plain.{Answer}
 use Rattle.hc_session.specs.Output.{Place, Answers, PassesLine, AnswersLine}
 use Rattle.hc_session.specs.Replay.{IsAccepted, AreAccepted}
 use mathlib.Core.Logic.{◌⊎◌, inl, inr}
@@ -44,7 +44,7 @@ none_refused_among law start end there (x ∷ xs) ys line what all front refused
     none_refused_among law all.0 end there xs ys line what all.2 (rw same at front.2) refused
 
 -- what is answered is accepted
-pub answered_accepted : {S : Type 0} (does : S → Command → Reply → S → Type 0) (a b : Place S) (lines : List (List ℕ)) (text : List ℕ) → Answers does a lines text b → AreAccepted a.at lines b.at
+pub answered_accepted : {S : Type 0} (does : S → Command → Answer → S → Type 0) (a b : Place S) (lines : List (List ℕ)) (text : List ℕ) → Answers does a lines text b → AreAccepted a.at lines b.at
 answered_accepted {S} does a b [] text answers = ap (λ (p : Place S). p.at) answers.0
 answered_accepted {S} does a b (line ∷ lines) text answers =
     (answers.0.at, accept a answers.0 line answers.1 answers.3, answered_accepted does answers.0 b lines answers.2 answers.4) where

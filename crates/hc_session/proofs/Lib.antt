@@ -1,7 +1,9 @@
 pub mod Causes
+pub mod Declares
 pub mod Endings
 pub mod Ends
 pub mod FirstRefused
+pub mod Marked
 pub mod NamedActs
 pub mod NamedChanges
 pub mod NamedReplies
@@ -11,6 +13,7 @@ pub mod NamedWrites
 pub mod Obeys
 pub mod OnTables
 pub mod Pieces
+pub mod Rendered
 pub mod Runs
 pub mod Spends
 pub mod Takes

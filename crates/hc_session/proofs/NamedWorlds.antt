@@ -19,7 +19,8 @@ use Rattle.hc_commands.specs.declared.command.Command.{Command}
 use Rattle.hc_commands.specs.declared.command.Command.TheVariants.{New, Get, Set, Define, Has, Own, Delete, Keys, Proto, SetProto, Extensible, Lock, Seal, Freeze, Shape, Same, Declare, Exec}
 use Rattle.hc_report.specs.Named.{IsNamedHeld, IsNamedReply}
 use Rattle.hc_session.specs.Named.{AreNamedProps, IsNamedWorld}
-use Rattle.hc_session.specs.Tables.{AnswersOnTables, HasNumbers, IsHowKept, IsReplyOf, act_of, act_there, all_there, did_in}
+use Rattle.hc_session.specs.Plain.{Answer, AnswersPlainly, PlainState, act_in}
+use Rattle.hc_session.specs.Tables.{HasNumbers, IsHowKept, IsReplyOf, act_of, act_there, all_there, did_in}
 use Rattle.hc_session.proofs.NamedActs.{IsNamedAct, either_act, defined_named, deleted_named, linked_named, locked_named}
 use Rattle.hc_session.proofs.NamedChanges.{after_named}
 use Rattle.hc_session.proofs.NamedReplies.{get_named, own_named, keys_named}
@@ -119,11 +120,15 @@ change_named : (count : ℕ) (act : Option Act) (w : World) → AreNamedActs cou
 change_named count (Some act) w of_act named = after_named count act.did w of_act.1 named
 change_named count None w of_act named = named
 
--- a command whose names and texts are among the names: its reply can be shown, and the objects keep such names and texts
-pub replies_show : (count : ℕ) (old : Tables) (command : Command) (reply : Reply) (new : Tables) → AnswersOnTables old command reply new → IsNamedWorld count old.world → IsCommandBelow count command → IsNamedReply count reply
-replies_show count old command reply new answers named of_command =
-    reply_shown count command (act_of old command) reply (act_named count old command named of_command) answers.reply_is
+in_named : (count : ℕ) (plain : PlainState) (command : Command) → IsNamedWorld count plain.tables.world → IsCommandBelow count command → AreNamedActs count (act_in plain command)
+in_named count plain (Declare op name) named of_command = (tt, tt)
+in_named count plain command named of_command = act_named count plain.tables command named of_command
 
-pub tables_keep : (count : ℕ) (old : Tables) (command : Command) (reply : Reply) (new : Tables) → AnswersOnTables old command reply new → IsNamedWorld count old.world → IsCommandBelow count command → IsNamedWorld count new.world
-tables_keep count old command reply new answers named of_command =
-    rw (ap (λ (t : Tables). t.world) answers.tables_are) (change_named count (act_of old command) old.world (act_named count old command named of_command) named)
+-- a command whose names and texts are among the names: its reply can be shown, and the objects keep such names and texts
+pub replies_show : (count : ℕ) (old : PlainState) (command : Command) (answer : Answer) (new : PlainState) → AnswersPlainly old command answer new → IsNamedWorld count old.tables.world → IsCommandBelow count command → IsNamedReply count answer.reply
+replies_show count old command answer new answers named of_command =
+    reply_shown count command (act_in old command) answer.reply (in_named count old command named of_command) answers.reply_is
+
+pub tables_keep : (count : ℕ) (old : PlainState) (command : Command) (answer : Answer) (new : PlainState) → AnswersPlainly old command answer new → IsNamedWorld count old.tables.world → IsCommandBelow count command → IsNamedWorld count new.tables.world
+tables_keep count old command answer new answers named of_command =
+    rw (ap (λ (t : Tables). t.world) answers.tables_are) (change_named count (act_in old command) old.tables.world (in_named count old command named of_command) named)

@@ -1,5 +1,5 @@
 -- A write of a value whose text is among the names, to a name among them.
-use Rattle.std.proofs.Common.{ℕ, ◌<◌, Bool, Option, Some, None}
+use Rattle.std.proofs.Common.{ℕ, ◌<◌, Option, Some, None}
 use Rattle.std.specs.Prelude.{◌==◌}
 use Rattle.hc_value.specs.Attrs.{is_read_only}
 use Rattle.hc_value.specs.declared.attrs.Attrs.{Attrs}

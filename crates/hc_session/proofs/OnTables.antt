@@ -1,66 +1,65 @@
 -- A run over objects is one over property tables.
-use Rattle.std.proofs.Common.{◌≡◌, ℕ, List, [], ◌∷◌, ◌++◌, refl, sym, ap, subst, Option}
+use Rattle.std.proofs.Common.{◌≡◌, ℕ, List, [], ◌∷◌, refl, ap, subst, Option}
 use Rattle.hc_table.specs.Changes.{Moved}
-use Rattle.hc_table.specs.Kept.{Kept as Tables}
-use Rattle.hc_table.specs.World.{World}
-use Rattle.hc_objects.specs.Came.{Moves}
 use Rattle.hc_objects.specs.Laws.{came-world, came-shape}
-use Rattle.hc_objects.specs.State.{ObjectsState}
 use Rattle.hc_script.specs.declared.fault.What.{What}
 use Rattle.hc_script.specs.declared.fault.Status.{Status}
 use Rattle.hc_script.specs.declared.fault.Status.TheVariants.{Done, BadWords, BadScript, ReadFault, WriteFault, Memory}
-use Rattle.hc_session.specs.Tables.{AnswersOnTables}
-use Rattle.hc_session.specs.State.{Does, any_pace, tables_of}
+use Rattle.hc_session.specs.Plain.{AnswersPlainly, PlainState}
+use Rattle.hc_session.specs.Standing.{Standing, plain_of}
+use Rattle.hc_session.specs.State.{Does, Wants, any_pace}
 use Rattle.hc_session.specs.Output.{Outside, Place, Answers, AnswersLine, AnswersNext, PassesLine, AnswersUntilRefused, AnswersUntilFault}
-use Rattle.hc_session.specs.Replay.{RepliesAsTables, EndsRun, the_first_place}
-use Rattle.hc_session.specs.Fresh.{IsUntouched}
-use Rattle.hc_session.specs.Keeping.{KeepsObjects, IsLeft, IsLeftInWant}
+use Rattle.hc_session.specs.Replay.{RepliesAsTables, EndsRun, nothing_made, the_first_place}
+use Rattle.hc_session.specs.Fresh.{IsNew}
+use Rattle.hc_session.specs.Keeping.{KeepsSession, IsLeft, IsLeftInWant}
 use mathlib.Core.Logic.{◌⊎◌, inl, inr}
 
 module _ {P : Type 0} where
   -- the same place, where only tables are seen
-  abbrev seen_as_tables : Place (ObjectsState P) → Place Tables
-  seen_as_tables place = record { at = place.at; begun = place.begun; state = tables_of place.state }
+  abbrev seen_as_tables : Place (Standing P) → Place PlainState
+  seen_as_tables place = record { at = place.at; begun = place.begun; state = plain_of place.state }
 
-  line_on_tables : (old new : Place (ObjectsState P)) (line text : List ℕ) → AnswersLine (Does any_pace) old line text new → AnswersLine AnswersOnTables (seen_as_tables old) line text (seen_as_tables new)
+  line_on_tables : (old new : Place (Standing P)) (line text : List ℕ) → AnswersLine (Does any_pace) old line text new → AnswersLine AnswersPlainly (seen_as_tables old) line text (seen_as_tables new)
   line_on_tables old new line text h =
-      record { command = h.command; reply = h.reply; asked = h.asked; begun = h.begun; done = h.done.answers; text_is = h.text_is }
+      record { command = h.command; answer = h.answer; asked = h.asked; begun = h.begun; done = h.done.answers; text_is = h.text_is }
 
-  turn_on_tables : (old new : Place (ObjectsState P)) (line text : List ℕ) → PassesLine old line text new ⊎ AnswersLine (Does any_pace) old line text new → PassesLine (seen_as_tables old) line text (seen_as_tables new) ⊎ AnswersLine AnswersOnTables (seen_as_tables old) line text (seen_as_tables new)
+  turn_on_tables : (old new : Place (Standing P)) (line text : List ℕ) → PassesLine old line text new ⊎ AnswersLine (Does any_pace) old line text new → PassesLine (seen_as_tables old) line text (seen_as_tables new) ⊎ AnswersLine AnswersPlainly (seen_as_tables old) line text (seen_as_tables new)
   turn_on_tables old new line text (inl h) =
-      inl (record { passed = h.passed; begun = h.begun; same = ap (λ (s : ObjectsState P). tables_of s) h.same; text_is = h.text_is })
+      inl (record { passed = h.passed; begun = h.begun; same = ap (λ (s : Standing P). plain_of s) h.same; text_is = h.text_is })
   turn_on_tables old new line text (inr h) = inr (line_on_tables old new line text h)
 
-  answers_on_tables : (start end : Place (ObjectsState P)) (lines : List (List ℕ)) (text : List ℕ) → Answers (Does any_pace) start lines text end → Answers AnswersOnTables (seen_as_tables start) lines text (seen_as_tables end)
+  answers_on_tables : (start end : Place (Standing P)) (lines : List (List ℕ)) (text : List ℕ) → Answers (Does any_pace) start lines text end → Answers AnswersPlainly (seen_as_tables start) lines text (seen_as_tables end)
   answers_on_tables start end [] text h = (ap seen_as_tables h.0, h.1)
   answers_on_tables start end (line ∷ lines) text h =
       (seen_as_tables h.0, h.1, h.2, turn_on_tables start h.0 line h.1 h.3, answers_on_tables h.0 end lines h.2 h.4, h.5)
 
-  until_refused_on_tables : (start end : Place (ObjectsState P)) (before : Option (List ℕ)) (text : List ℕ) (n : ℕ) (what : What) → AnswersUntilRefused (Does any_pace) start before text end n what → AnswersUntilRefused AnswersOnTables (seen_as_tables start) before text (seen_as_tables end) n what
+  until_refused_on_tables : (start end : Place (Standing P)) (before : Option (List ℕ)) (text : List ℕ) (n : ℕ) (what : What) → AnswersUntilRefused (Does any_pace) start before text end n what → AnswersUntilRefused AnswersPlainly (seen_as_tables start) before text (seen_as_tables end) n what
   until_refused_on_tables start end before text n what h =
       record { lines = h.lines; answers = answers_on_tables start end h.lines text h.answers; number = h.number; refused = h.refused }
 
-  until_fault_on_tables : (start end : Place (ObjectsState P)) (before now : Option (List ℕ)) (text : List ℕ) → AnswersUntilFault (Does any_pace) start before now text end → AnswersUntilFault AnswersOnTables (seen_as_tables start) before now text (seen_as_tables end)
+  until_fault_on_tables : (start end : Place (Standing P)) (before now : Option (List ℕ)) (text : List ℕ) → AnswersUntilFault (Does any_pace) start before now text end → AnswersUntilFault AnswersPlainly (seen_as_tables start) before now text (seen_as_tables end)
   until_fault_on_tables start end before now text h =
       record { lines = h.lines; dropped = h.dropped; unbroken = h.unbroken; taken = h.taken; answers = answers_on_tables start end h.lines text h.answers }
 
-  next_on_tables : (before : Option (List ℕ)) (lines : List (List ℕ)) (place end : Place (ObjectsState P)) (more : List ℕ) → AnswersNext (Does any_pace) before lines place more end → AnswersNext AnswersOnTables before lines (seen_as_tables place) more (seen_as_tables end)
+  next_on_tables : (before : Option (List ℕ)) (lines : List (List ℕ)) (place end : Place (Standing P)) (more : List ℕ) → AnswersNext (Does any_pace) before lines place more end → AnswersNext AnswersPlainly before lines (seen_as_tables place) more (seen_as_tables end)
   next_on_tables before lines place end more h =
       record { line = h.line; there = h.there; next = line_on_tables place end h.line more h.next }
 
-  -- want of memory leaves the tables
-  moves_keep_tables : (old new : ObjectsState P) → Moves any_pace old new → tables_of old ≡ tables_of new
-  moves_keep_tables old new moves = rw (came-world any_pace old new Moved moves, came-shape any_pace old new Moved moves) refl
+  -- want of memory leaves the tables and the sites
+  want_keeps_tables : (old new : Standing P) → Wants any_pace old new → plain_of old ≡ plain_of new
+  want_keeps_tables old new (inl same) = rw (same.objects, same.sites) refl
+  want_keeps_tables old new (inr marked) =
+      rw (marked.sites, came-world any_pace old.objects new.objects Moved marked.moves, came-shape any_pace old.objects new.objects Moved marked.moves) refl
 
-  ends_same : (old new : ObjectsState P) (end : Place (ObjectsState P)) → IsLeft old new end → tables_of end.state ≡ tables_of new
-  ends_same old new end left = ap (λ (s : ObjectsState P). tables_of s) left.same
+  ends_same : (old new : Standing P) (end : Place (Standing P)) → IsLeft old new end → plain_of end.state ≡ plain_of new
+  ends_same old new end left = ap (λ (s : Standing P). plain_of s) left.same
 
-  leaves_tables : (before : Option (List ℕ)) (old new : ObjectsState P) (lines : List (List ℕ)) (place : Place (ObjectsState P)) → IsLeftInWant old new place ⊎ ((more : List ℕ) × (end : Place (ObjectsState P)) × AnswersNext (Does any_pace) before lines place more end × IsLeft old new end) → (tables_of place.state ≡ tables_of new) ⊎ ((more : List ℕ) × (end : Place Tables) × AnswersNext AnswersOnTables before lines (seen_as_tables place) more end × (end.state ≡ tables_of new))
-  leaves_tables before old new lines place (inl left) = inl (moves_keep_tables place.state new left.moves)
+  leaves_tables : (before : Option (List ℕ)) (old new : Standing P) (lines : List (List ℕ)) (place : Place (Standing P)) → IsLeftInWant old new place ⊎ ((more : List ℕ) × (end : Place (Standing P)) × AnswersNext (Does any_pace) before lines place more end × IsLeft old new end) → (plain_of place.state ≡ plain_of new) ⊎ ((more : List ℕ) × (end : Place PlainState) × AnswersNext AnswersPlainly before lines (seen_as_tables place) more end × (end.state ≡ plain_of new))
+  leaves_tables before old new lines place (inl left) = inl (want_keeps_tables place.state new left.wants)
   leaves_tables before old new lines place (inr h) =
       inr (h.0, seen_as_tables h.1, next_on_tables before lines place h.1 h.0 h.2, ends_same old new h.1 h.3)
 
-  run_on_tables : (old new : ObjectsState P) (before after : Outside) (status : Status) → KeepsObjects old before new status after → EndsRun (the_first_place (tables_of old)) before status after AnswersOnTables (λ end. end.state ≡ tables_of new) (λ place. place.state ≡ tables_of new)
+  run_on_tables : (old new : Standing P) (before after : Outside) (status : Status) → KeepsSession old before new status after → EndsRun (the_first_place (plain_of old)) before status after AnswersPlainly (λ end. end.state ≡ plain_of new) (λ place. place.state ≡ plain_of new)
   run_on_tables old new before after Done h = record {
     text = h.text;
     end = seen_as_tables h.end;
@@ -119,10 +118,13 @@ module _ {P : Type 0} where
     leaves = leaves_tables before.left old new h.lines h.place h.leaves;
   }
 
-  -- and begins without objects
-  pub replies_as_tables : (old new : ObjectsState P) (before after : Outside) (status : Status) → IsUntouched old → KeepsObjects old before new status after → RepliesAsTables old.heap.view.shape.objects before status after
-  replies_as_tables old new before after status untouched h = (
-    tables_of new,
-    subst (λ (w : World). EndsRun (the_first_place (record { world = w; limit = old.heap.view.shape.objects })) before status after AnswersOnTables (λ end. end.state ≡ tables_of new) (λ place. place.state ≡ tables_of new))
-        untouched.world (run_on_tables old new before after status h),
+  -- and begins without objects and sites
+  pub replies_as_tables : (old new : Standing P) (before after : Outside) (status : Status) → IsNew old → KeepsSession old before new status after → RepliesAsTables old.objects.heap.view.shape.objects before status after
+  replies_as_tables old new before after status fresh h = (
+    plain_of new,
+    subst (λ (state : PlainState). EndsRun (the_first_place state) before status after AnswersPlainly (λ end. end.state ≡ plain_of new) (λ place. place.state ≡ plain_of new))
+        (begins old fresh) (run_on_tables old new before after status h),
   )
+    where
+      begins : (session : Standing P) → IsNew session → plain_of session ≡ nothing_made session.objects.heap.view.shape.objects
+      begins session fresh = rw (fresh.objects.world, fresh.sites) refl

@@ -1,12 +1,11 @@
 -- How the parts of a run go together.
-use Rattle.std.proofs.Common.{◌≡◌, ℕ, ◌+◌, List, [], ◌∷◌, ◌++◌, refl, sym, ◌∙◌, ap, subst, Option, Some, None, append_assoc, append-nil, arith}
-use Rattle.hc_value.specs.declared.reply.Reply.{Reply}
+use Rattle.std.proofs.Common.{ℕ, ◌+◌, List, [], ◌∷◌, ◌++◌, refl, sym, ◌∙◌, ap, subst, Option, Some, None, append_assoc, append-nil}
 use Rattle.hc_lines.specs.Lines.{lines_of, TakesLines, StartsWithLines}
 use Rattle.hc_lines.specs.Outside.{AppendsBytes}
 use Rattle.hc_script.specs.Reading.{Position, ArePassed, MeetsRefused, TakesCommand}
 use Rattle.hc_commands.specs.declared.command.Command.{Command}
 use Rattle.hc_script.specs.declared.fault.What.{What}
-use Rattle.hc_report.specs.Text.{reply_line}
+use Rattle.hc_session.specs.Plain.{Answer, answer_text}
 use Rattle.hc_session.specs.Output.{Place, AnswersLine, Answers}
 use Rattle.hc_session.specs.Progress.{Progress}
 use mathlib.Core.Logic.{inl, inr}
@@ -57,7 +56,7 @@ appends_both (Some a) None c xs ys first second = absurd first
 appends_both (Some a) (Some b) None xs ys first second = absurd second
 appends_both (Some a) (Some b) (Some c) xs ys first second = second ∙ ap (λ (zs : List ℕ). zs ++ ys) first ∙ append_assoc a xs ys
 
-module _ {S : Type 0} (does : S → Command → Reply → S → Type 0) where
+module _ {S : Type 0} (does : S → Command → Answer → S → Type 0) where
   -- lines that are answered one after another
   pub answers_both : (a b c : Place S) (xs ys : List (List ℕ)) (t u : List ℕ) → Answers does a xs t b → Answers does b ys u c → Answers does a (xs ++ ys) (t ++ u) c
   answers_both a b c [] ys t u first second = rw (first.1, ← first.0) second
@@ -92,9 +91,9 @@ module _ {S : Type 0} (does : S → Command → Reply → S → Type 0) where
   one_line a b line text answers = (b, text, [], inr answers, (refl, refl), sym (append-nil text))
 
   -- the line of a command that is performed
-  pub command_line : (at : Position) (state new : S) (begun : ℕ) (before now : Option (List ℕ)) (command : Command) (after : Position) (reply : Reply) → (took : TakesCommand at before command after now) → does state command reply new → AnswersLine does (record { at = took.there; begun = begun; state = state }) took.line (reply_line after.names reply) (record { at = after; begun = begun + 1; state = new })
-  command_line at state new begun before now command after reply took done =
-      record { command = command; reply = reply; asked = took.asked; begun = refl; done = done; text_is = refl }
+  pub command_line : (at : Position) (state new : S) (begun : ℕ) (before now : Option (List ℕ)) (command : Command) (after : Position) (answer : Answer) → (took : TakesCommand at before command after now) → does state command answer new → AnswersLine does (record { at = took.there; begun = begun; state = state }) took.line (answer_text after.names answer) (record { at = after; begun = begun + 1; state = new })
+  command_line at state new begun before now command after answer took done =
+      record { command = command; answer = answer; asked = took.asked; begun = refl; done = done; text_is = refl }
 
   -- it stands behind lines that ask for nothing, and these behind what was answered
   pub command_there : (start : Place S) (a taken : Option (List ℕ)) (at : Position) (state : S) (ahead ahead_now now : Option (List ℕ)) (command : Command) (after : Position) → (so_far : Progress does start a taken at state ahead now) → (took : TakesCommand at ahead command after ahead_now) → StartsWithLines a ((so_far.lines ++ took.passed) ++ took.line ∷ [])
@@ -103,23 +102,23 @@ module _ {S : Type 0} (does : S → Command → Reply → S → Type 0) where
       (taken_in_front a ahead_now (so_far.lines ++ (took.passed ++ took.line ∷ [])) (takes_both a ahead ahead_now so_far.lines (took.passed ++ took.line ∷ []) so_far.took took.taken))
 
   -- a command behind lines that ask for nothing
-  command_answer : (at : Position) (state new : S) (begun : ℕ) (before now : Option (List ℕ)) (command : Command) (after : Position) (reply : Reply) → (took : TakesCommand at before command after now) → does state command reply new → Answers does (record { at = at; begun = begun; state = state }) (took.passed ++ took.line ∷ []) (reply_line after.names reply) (record { at = after; begun = begun + 1; state = new })
-  command_answer at state new begun before now command after reply took done =
-      answers_both _ (record { at = took.there; begun = begun; state = state }) _ took.passed (took.line ∷ []) [] (reply_line after.names reply)
+  command_answer : (at : Position) (state new : S) (begun : ℕ) (before now : Option (List ℕ)) (command : Command) (after : Position) (answer : Answer) → (took : TakesCommand at before command after now) → does state command answer new → Answers does (record { at = at; begun = begun; state = state }) (took.passed ++ took.line ∷ []) (answer_text after.names answer) (record { at = after; begun = begun + 1; state = new })
+  command_answer at state new begun before now command after answer took done =
+      answers_both _ (record { at = took.there; begun = begun; state = state }) _ took.passed (took.line ∷ []) [] (answer_text after.names answer)
       (passed_answer at took.there begun state took.passed took.are_passed)
-      (one_line _ _ took.line (reply_line after.names reply) (command_line at state new begun before now command after reply took done))
+      (one_line _ _ took.line (answer_text after.names answer) (command_line at state new begun before now command after answer took done))
 
   -- nothing was done yet
   pub no_progress : (start : Place S) (before taken : Option (List ℕ)) → Progress does start before taken start.at start.state before taken
   no_progress start before taken = record { lines = []; text = []; begun = start.begun; took = takes_none before; answers = (refl, refl); written = appends_none taken }
 
   -- one command further
-  pub progress_on : (start : Place S) (before taken : Option (List ℕ)) (at after : Position) (state new : S) (ahead ahead_now now later : Option (List ℕ)) (command : Command) (reply : Reply) → Progress does start before taken at state ahead now → TakesCommand at ahead command after ahead_now → does state command reply new → AppendsBytes now (reply_line after.names reply) later → Progress does start before taken after new ahead_now later
-  progress_on start before taken at after state new ahead ahead_now now later command reply so_far took done written = record {
+  pub progress_on : (start : Place S) (before taken : Option (List ℕ)) (at after : Position) (state new : S) (ahead ahead_now now later : Option (List ℕ)) (command : Command) (answer : Answer) → Progress does start before taken at state ahead now → TakesCommand at ahead command after ahead_now → does state command answer new → AppendsBytes now (answer_text after.names answer) later → Progress does start before taken after new ahead_now later
+  progress_on start before taken at after state new ahead ahead_now now later command answer so_far took done written = record {
     lines = so_far.lines ++ (took.passed ++ took.line ∷ []);
-    text = so_far.text ++ reply_line after.names reply;
+    text = so_far.text ++ answer_text after.names answer;
     begun = so_far.begun + 1;
     took = takes_both before ahead ahead_now so_far.lines (took.passed ++ took.line ∷ []) so_far.took took.taken;
-    answers = answers_both start (record { at = at; begun = so_far.begun; state = state }) _ so_far.lines _ so_far.text _ so_far.answers (command_answer at state new so_far.begun ahead ahead_now command after reply took done);
-    written = appends_both taken now later so_far.text (reply_line after.names reply) so_far.written written;
+    answers = answers_both start (record { at = at; begun = so_far.begun; state = state }) _ so_far.lines _ so_far.text _ so_far.answers (command_answer at state new so_far.begun ahead ahead_now command after answer took done);
+    written = appends_both taken now later so_far.text (answer_text after.names answer) so_far.written written;
   }

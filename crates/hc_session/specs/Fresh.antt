@@ -1,10 +1,12 @@
 -- What a session keeps.
-use Rattle.std.specs.Prelude.{◌≡◌, ◌≤◌, Bool, false, None, []}
+use Rattle.std.specs.Prelude.{◌≡◌, ◌≤◌, true, None, []}
 use Rattle.hc_layout.specs.declared.shape.TheConstants.{USUAL}
 use Rattle.hc_heap.specs.States.{no_items}
+use Rattle.hc_objects.specs.Admitting.{IsHonest}
 use Rattle.hc_objects.specs.Came.{world_of}
 use Rattle.hc_objects.specs.Rest.{AreCalm}
 use Rattle.hc_objects.specs.State.{ObjectsState}
+use Rattle.hc_session.specs.Standing.{Standing}
 
 -- a state in which nothing was done: there is no object, no word was stored, no item handed out and no reader met
 pub record IsUntouched {P : Type 0} (objects : ObjectsState P) : Type 0 where
@@ -16,9 +18,17 @@ pub record IsUntouched {P : Type 0} (objects : ObjectsState P) : Type 0 where
   pub stores : objects.heap.desk.trail ≡ []
   pub met : objects.heap.desk.met ≡ []
 
--- where no command was performed nothing was done; there may be at most as many objects as in the usual shape; and no map is
--- unstable that a prototype has
-pub record IsSession {P : Type 0} (objects : ObjectsState P) (begun : Bool) : Type 0 where
-  pub fresh : begun ≡ false → IsUntouched objects
-  pub few : objects.heap.view.shape.objects ≤ USUAL.objects
-  pub calm : AreCalm objects.heap.view.trail
+-- a session in which nothing was done: there is no site either, no line of the log and no mark
+pub record IsNew {P : Type 0} (session : Standing P) : Type 0 where
+  pub objects : IsUntouched session.objects
+  pub sites : session.sites ≡ []
+  pub log : session.log ≡ []
+  pub marks : session.marks ≡ []
+
+-- where no command was performed nothing was done; there may be at most as many objects as in the usual shape; no map is unstable
+-- that a prototype has; and what each field says of values is true of all objects
+pub record IsSession {P : Type 0} (session : Standing P) : Type 0 where
+  pub fresh : session.fresh ≡ true → IsNew session
+  pub few : session.objects.heap.view.shape.objects ≤ USUAL.objects
+  pub calm : AreCalm session.objects.heap.view.trail
+  pub honest : IsHonest session.objects.heap.view.trail

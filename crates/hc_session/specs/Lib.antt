@@ -1,4 +1,7 @@
 pub mod Tables
+pub mod Plain
+pub mod Standing
+pub mod Logging
 pub mod State
 pub mod Fault
 pub mod Output

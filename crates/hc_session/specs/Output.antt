@@ -1,12 +1,11 @@
 -- A run over the lines of a script, by what its commands do to a state, and what it writes.
 use Rattle.std.specs.Prelude.{◌≡◌, ◌⊎◌, ℕ, ◌+◌, List, [], ◌∷◌, ◌++◌, Option}
-use Rattle.hc_value.specs.declared.reply.Reply.{Reply}
 use Rattle.hc_lines.specs.Lines.{TakesLines, StartsWithLines, IsUnbroken, ahead}
 use Rattle.hc_lines.specs.Outside.{AppendsBytes, IsAtEnd}
 use Rattle.hc_script.specs.Reading.{Position, IsPassed, IsAsked, MeetsRefused}
 use Rattle.hc_commands.specs.declared.command.Command.{Command}
 use Rattle.hc_script.specs.declared.fault.What.{What}
-use Rattle.hc_report.specs.Text.{reply_line}
+use Rattle.hc_session.specs.Plain.{Answer, answer_text}
 
 -- a front of a text that isn't all of it
 abbrev pub IsProperFront : List ℕ → List ℕ → Type 0
@@ -44,42 +43,42 @@ pub record PassesLine {S : Type 0} (old : Place S) (line text : List ℕ) (new :
   pub same : new.state ≡ old.state
   pub text_is : text ≡ []
 
--- a command's text is the line of its reply
-pub record AnswersLine {S : Type 0} (does : S → Command → Reply → S → Type 0) (old : Place S) (line text : List ℕ) (new : Place S) : Type 0 where
+-- a command's text are its lines of the log, and then the line of its reply
+pub record AnswersLine {S : Type 0} (does : S → Command → Answer → S → Type 0) (old : Place S) (line text : List ℕ) (new : Place S) : Type 0 where
   pub command : Command
-  pub reply : Reply
+  pub answer : Answer
   pub asked : IsAsked old.at line command new.at
   pub begun : new.begun ≡ old.begun + 1
-  pub done : does old.state command reply new.state
-  pub text_is : text ≡ reply_line new.at.names reply
+  pub done : does old.state command answer new.state
+  pub text_is : text ≡ answer_text new.at.names answer
 
 -- one line goes from a place to the next, with this text
-abbrev pub Turns : {S : Type 0} → (S → Command → Reply → S → Type 0) → Place S → List ℕ → List ℕ → Place S → Type 0
+abbrev pub Turns : {S : Type 0} → (S → Command → Answer → S → Type 0) → Place S → List ℕ → List ℕ → Place S → Type 0
 Turns does old line text new = PassesLine old line text new ⊎ AnswersLine does old line text new
 
 -- each of the lines in turn, with all their text
-abbrev pub Answers : {S : Type 0} → (S → Command → Reply → S → Type 0) → Place S → List (List ℕ) → List ℕ → Place S → Type 0
+abbrev pub Answers : {S : Type 0} → (S → Command → Answer → S → Type 0) → Place S → List (List ℕ) → List ℕ → Place S → Type 0
 Answers {S} does old [] text new = (new ≡ old) × (text ≡ [])
 Answers {S} does old (line ∷ lines) text new =
     (mid : Place S) × (first : List ℕ) × (others : List ℕ)
     × Turns does old line first mid × Answers does mid lines others new × (text ≡ first ++ others)
 
 -- the lines of the source from first to last are answered
-pub record AnswersAll {S : Type 0} (does : S → Command → Reply → S → Type 0) (start : Place S) (before now : Option (List ℕ)) (text : List ℕ) (end : Place S) : Type 0 where
+pub record AnswersAll {S : Type 0} (does : S → Command → Answer → S → Type 0) (start : Place S) (before now : Option (List ℕ)) (text : List ℕ) (end : Place S) : Type 0 where
   pub lines : List (List ℕ)
   pub taken : TakesLines before now lines
   pub ended : IsAtEnd now
   pub answers : Answers does start lines text end
 
 -- the lines before the one of this number are answered, and that one is refused
-pub record AnswersUntilRefused {S : Type 0} (does : S → Command → Reply → S → Type 0) (start : Place S) (before : Option (List ℕ)) (text : List ℕ) (end : Place S) (n : ℕ) (what : What) : Type 0 where
+pub record AnswersUntilRefused {S : Type 0} (does : S → Command → Answer → S → Type 0) (start : Place S) (before : Option (List ℕ)) (text : List ℕ) (end : Place S) (n : ℕ) (what : What) : Type 0 where
   pub lines : List (List ℕ)
   pub answers : Answers does start lines text end
   pub number : n ≡ end.at.lines + 1
   pub refused : MeetsRefused end.at before lines what
 
 -- each line whose newline was read is answered, and the rest that was read is dropped
-pub record AnswersUntilFault {S : Type 0} (does : S → Command → Reply → S → Type 0) (start : Place S) (before now : Option (List ℕ)) (text : List ℕ) (end : Place S) : Type 0 where
+pub record AnswersUntilFault {S : Type 0} (does : S → Command → Answer → S → Type 0) (start : Place S) (before now : Option (List ℕ)) (text : List ℕ) (end : Place S) : Type 0 where
   pub lines : List (List ℕ)
   pub dropped : List ℕ
   pub unbroken : IsUnbroken dropped
@@ -87,12 +86,12 @@ pub record AnswersUntilFault {S : Type 0} (does : S → Command → Reply → S 
   pub answers : Answers does start lines text end
 
 -- some of the first lines are answered
-pub record AnswersSome {S : Type 0} (does : S → Command → Reply → S → Type 0) (start : Place S) (before : Option (List ℕ)) (lines : List (List ℕ)) (text : List ℕ) (end : Place S) : Type 0 where
+pub record AnswersSome {S : Type 0} (does : S → Command → Answer → S → Type 0) (start : Place S) (before : Option (List ℕ)) (lines : List (List ℕ)) (text : List ℕ) (end : Place S) : Type 0 where
   pub there : StartsWithLines before lines
   pub answers : Answers does start lines text end
 
--- and then the next line asks for a command, which is performed: this is the text of its reply
-pub record AnswersNext {S : Type 0} (does : S → Command → Reply → S → Type 0) (before : Option (List ℕ)) (lines : List (List ℕ)) (place : Place S) (more : List ℕ) (end : Place S) : Type 0 where
+-- and then the next line asks for a command, which is performed: this is the text of its answer
+pub record AnswersNext {S : Type 0} (does : S → Command → Answer → S → Type 0) (before : Option (List ℕ)) (lines : List (List ℕ)) (place : Place S) (more : List ℕ) (end : Place S) : Type 0 where
   pub line : List ℕ
   pub there : StartsWithLines before (lines ++ line ∷ [])
   pub next : AnswersLine does place line more end

@@ -1,6 +1,5 @@
 -- How far a replay has come.
 use Rattle.std.specs.Prelude.{◌≡◌, ◌⊎◌, ℕ, List, Option}
-use Rattle.hc_value.specs.declared.reply.Reply.{Reply}
 use Rattle.hc_lines.specs.Lines.{TakesLines}
 use Rattle.hc_lines.specs.Outside.{AppendsBytes}
 use Rattle.hc_script.specs.Reading.{Position}
@@ -11,10 +10,11 @@ use Rattle.hc_script.specs.declared.fault.Status.{Status}
 use Rattle.hc_script.specs.declared.fault.Status.TheVariants.{BadScript, ReadFault, Memory as OutOfMemory}
 use Rattle.hc_session.specs.Fault.{refusal_line, read_line}
 use Rattle.hc_session.specs.Output.{Place, Answers}
+use Rattle.hc_session.specs.Plain.{Answer}
 use Rattle.hc_session.specs.Replay.{EndsWith}
 
 -- lines were taken from the front of what was ahead and answered, and their text was written
-pub record Progress {S : Type 0} (does : S → Command → Reply → S → Type 0) (start : Place S) (before taken : Option (List ℕ)) (at : Position) (state : S) (ahead now : Option (List ℕ)) : Type 0 where
+pub record Progress {S : Type 0} (does : S → Command → Answer → S → Type 0) (start : Place S) (before taken : Option (List ℕ)) (at : Position) (state : S) (ahead now : Option (List ℕ)) : Type 0 where
   pub lines : List (List ℕ)
   pub text : List ℕ
   pub begun : ℕ

@@ -1,6 +1,5 @@
 -- What a replay has written, by the status with which it ends.
 use Rattle.std.specs.Prelude.{◌≡◌, ◌⊎◌, ℕ, ◌+◌, List, [], ◌∷◌, ◌++◌, Option, codes}
-use Rattle.hc_value.specs.declared.reply.Reply.{Reply}
 use Rattle.hc_lines.specs.Outside.{AppendsBytes, Rose}
 use Rattle.hc_lines.specs.Lines.{lines_of}
 use Rattle.hc_script.specs.Reading.{Position, IsPassed, IsAsked, IsRefused, the_start}
@@ -8,9 +7,8 @@ use Rattle.hc_commands.specs.declared.command.Command.{Command}
 use Rattle.hc_script.specs.declared.fault.What.{What}
 use Rattle.hc_script.specs.declared.fault.Status.{Status}
 use Rattle.hc_script.specs.declared.fault.Status.TheVariants.{Done, BadWords, BadScript, ReadFault, WriteFault, Memory}
-use Rattle.hc_table.specs.Kept.{Kept as Tables}
-use Rattle.hc_session.specs.Tables.{AnswersOnTables}
 use Rattle.hc_session.specs.Fault.{refusal_line, read_line, usage_line}
+use Rattle.hc_session.specs.Plain.{Answer, AnswersPlainly, PlainState}
 use Rattle.hc_session.specs.Output.{Outside, Place, AnswersAll, AnswersUntilRefused, AnswersUntilFault, AnswersSome, AnswersNext, AppendsPartly, AppendsFront}
 
 -- the words of the program that ask for a replay
@@ -25,7 +23,7 @@ the_first_place state = record { at = the_start; begun = 0; state = state }
 -- ran out
 
 -- each line was answered, and all was written
-pub record EndsDone {S : Type 0} (start : Place S) (before after : Outside) (does : S → Command → Reply → S → Type 0) (ends : Place S → Type 0) : Type 0 where
+pub record EndsDone {S : Type 0} (start : Place S) (before after : Outside) (does : S → Command → Answer → S → Type 0) (ends : Place S → Type 0) : Type 0 where
   pub text : List ℕ
   pub end : Place S
   pub answers : AnswersAll does start before.left after.left text end
@@ -33,7 +31,7 @@ pub record EndsDone {S : Type 0} (start : Place S) (before after : Outside) (doe
   pub written : AppendsBytes before.taken text after.taken
 
 -- a line was refused, and its line written
-pub record EndsRefused {S : Type 0} (n : ℕ) (what : What) (start : Place S) (before after : Outside) (does : S → Command → Reply → S → Type 0) (ends : Place S → Type 0) : Type 0 where
+pub record EndsRefused {S : Type 0} (n : ℕ) (what : What) (start : Place S) (before after : Outside) (does : S → Command → Answer → S → Type 0) (ends : Place S → Type 0) : Type 0 where
   pub text : List ℕ
   pub end : Place S
   pub answers : AnswersUntilRefused does start before.left text end n what
@@ -41,7 +39,7 @@ pub record EndsRefused {S : Type 0} (n : ℕ) (what : What) (start : Place S) (b
   pub written : AppendsBytes before.taken (text ++ refusal_line n what) after.taken
 
 -- a read failed, and its line was written
-pub record EndsUnread {S : Type 0} (start : Place S) (before after : Outside) (does : S → Command → Reply → S → Type 0) (ends : Place S → Type 0) : Type 0 where
+pub record EndsUnread {S : Type 0} (start : Place S) (before after : Outside) (does : S → Command → Answer → S → Type 0) (ends : Place S → Type 0) : Type 0 where
   pub text : List ℕ
   pub end : Place S
   pub answers : AnswersUntilFault does start before.left after.left text end
@@ -49,7 +47,7 @@ pub record EndsUnread {S : Type 0} (start : Place S) (before after : Outside) (d
   pub written : AppendsBytes before.taken (text ++ read_line) after.taken
 
 -- a write failed in the reply of a command: the replies before it were written whole, and the state is the one after it
-pub record FailsInReply {S : Type 0} (start : Place S) (before after : Outside) (does : S → Command → Reply → S → Type 0) (ends : Place S → Type 0) : Type 0 where
+pub record FailsInReply {S : Type 0} (start : Place S) (before after : Outside) (does : S → Command → Answer → S → Type 0) (ends : Place S → Type 0) : Type 0 where
   pub lines : List (List ℕ)
   pub text : List ℕ
   pub place : Place S
@@ -61,7 +59,7 @@ pub record FailsInReply {S : Type 0} (start : Place S) (before after : Outside) 
   pub written : AppendsPartly before.taken text more after.taken
 
 -- a write failed in the line of a refusal
-pub record FailsInRefusal {S : Type 0} (start : Place S) (before after : Outside) (does : S → Command → Reply → S → Type 0) (ends : Place S → Type 0) : Type 0 where
+pub record FailsInRefusal {S : Type 0} (start : Place S) (before after : Outside) (does : S → Command → Answer → S → Type 0) (ends : Place S → Type 0) : Type 0 where
   pub text : List ℕ
   pub end : Place S
   pub n : ℕ
@@ -71,7 +69,7 @@ pub record FailsInRefusal {S : Type 0} (start : Place S) (before after : Outside
   pub written : AppendsPartly before.taken text (refusal_line n what) after.taken
 
 -- a write failed in the line of a read fault
-pub record FailsInReadLine {S : Type 0} (start : Place S) (before after : Outside) (does : S → Command → Reply → S → Type 0) (ends : Place S → Type 0) : Type 0 where
+pub record FailsInReadLine {S : Type 0} (start : Place S) (before after : Outside) (does : S → Command → Answer → S → Type 0) (ends : Place S → Type 0) : Type 0 where
   pub text : List ℕ
   pub end : Place S
   pub answers : AnswersUntilFault does start before.left after.left text end
@@ -80,7 +78,7 @@ pub record FailsInReadLine {S : Type 0} (start : Place S) (before after : Outsid
 
 -- memory ran out: all that was written are the replies of some lines, whole. The state is the one after them, or the next
 -- line's command was performed, and its reply not written
-pub record EndsInWant {S : Type 0} (start : Place S) (before after : Outside) (does : S → Command → Reply → S → Type 0) (ends stays : Place S → Type 0) : Type 0 where
+pub record EndsInWant {S : Type 0} (start : Place S) (before after : Outside) (does : S → Command → Answer → S → Type 0) (ends stays : Place S → Type 0) : Type 0 where
   pub lines : List (List ℕ)
   pub text : List ℕ
   pub place : Place S
@@ -89,7 +87,7 @@ pub record EndsInWant {S : Type 0} (start : Place S) (before after : Outside) (d
   pub leaves : stays place ⊎ ((more : List ℕ) × (end : Place S) × AnswersNext does before.left lines place more end × ends end)
 
 -- a replay that ended so
-abbrev pub EndsRun : {S : Type 0} → Place S → Outside → Status → Outside → (S → Command → Reply → S → Type 0) → (Place S → Type 0) → (Place S → Type 0) → Type 0
+abbrev pub EndsRun : {S : Type 0} → Place S → Outside → Status → Outside → (S → Command → Answer → S → Type 0) → (Place S → Type 0) → (Place S → Type 0) → Type 0
 EndsRun start before Done after does ends stays = EndsDone start before after does ends
 EndsRun start before BadWords after does ends stays = ⊥
 EndsRun start before (BadScript n what) after does ends stays = EndsRefused n what start before after does ends
@@ -99,14 +97,14 @@ EndsRun start before WriteFault after does ends stays =
     ⊎ (FailsInRefusal start before after does ends ⊎ FailsInReadLine start before after does ends)
 EndsRun start before Memory after does ends stays = EndsInWant start before after does ends stays
 
--- no objects, and as many as may be made
-abbrev pub no_objects : ℕ → Tables
-no_objects limit = record { world = []; limit = limit }
+-- no objects, and as many as may be made; and no sites
+abbrev pub nothing_made : ℕ → PlainState
+nothing_made limit = record { tables = record { world = []; limit = limit }; sites = [] }
 
--- a replay over property tables that begins without objects, and leaves some tables
+-- a replay over property tables that begins without objects and sites, and leaves some tables
 abbrev pub RepliesAsTables : ℕ → Outside → Status → Outside → Type 0
 RepliesAsTables limit before status after =
-    (left : Tables) × EndsRun (the_first_place (no_objects limit)) before status after AnswersOnTables (λ end. end.state ≡ left) (λ place. place.state ≡ left)
+    (left : PlainState) × EndsRun (the_first_place (nothing_made limit)) before status after AnswersPlainly (λ end. end.state ≡ left) (λ place. place.state ≡ left)
 
 -- what was written where the words ask for nothing that is known
 abbrev pub WritesUsage : Outside → Status → Outside → Type 0

@@ -5,7 +5,9 @@ mod answer;
 mod pace;
 mod perform;
 mod refusal;
+mod render;
 mod replaying;
+mod serve;
 mod session;
 mod write;
 

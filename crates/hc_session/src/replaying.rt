@@ -1,8 +1,8 @@
 ghost use Rattle.std.specs.Prelude.{◌≡◌, ◌⊎◌, ◌↔◌, ◌≤◌, ℕ, [], true, codes, map, string_bytes, IfSome, IsTrue};
 ghost use Rattle.hc_lines.specs.Outside.{Rose};
 ghost use Rattle.hc_script.specs.Reader.{the_new_reader};
-ghost use Rattle.hc_session.specs.Fresh.{IsUntouched};
-ghost use Rattle.hc_session.specs.Keeping.{KeepsObjects};
+ghost use Rattle.hc_session.specs.Fresh.{IsNew};
+ghost use Rattle.hc_session.specs.Keeping.{KeepsSession};
 ghost use Rattle.hc_session.specs.Output.{seen};
 ghost use Rattle.hc_session.specs.Progress.{EndsByFault};
 ghost use Rattle.hc_session.specs.Replay.{AskForReplay, RepliesAsTables, WritesUsage, IsFirstRefused, AreAllAccepted, IsCutShort, EndsWith};
@@ -26,15 +26,17 @@ pub fn replay<S: Source, K: Sink>(
     requires { session.old.fresh ≡ true }
 
     // It begins where nothing was done.
-    ensures start { IsUntouched session.old.objects }
-    // The replies are those of plain property tables, line by line, and the line of a fault comes last.
+    ensures start { IsNew session.old }
+    // The replies are those of plain property tables and declared sites, line by line, each behind the lines that the log gets;
+    // the line of a fault comes last.
     ensures replies { AskForReplay (map string_bytes words.now) → RepliesAsTables session.old.objects.heap.view.shape.objects
         (seen S.left S.faults K.taken K.faults source.old sink.old) result
         (seen S.left S.faults K.taken K.faults source.new sink.new) }
-    // How the objects behind these tables are kept: hidden classes and dictionaries, why, and what they hand out.
-    ensures kept { AskForReplay (map string_bytes words.now) → KeepsObjects
-        session.old.objects (seen S.left S.faults K.taken K.faults source.old sink.old)
-        session.new.objects result (seen S.left S.faults K.taken K.faults source.new sink.new) }
+    // How the session behind them is kept: hidden classes and dictionaries, why, and what they hand out; the sites; the log, whose
+    // lines are those that were written, and one mark for each command.
+    ensures kept { AskForReplay (map string_bytes words.now) → KeepsSession
+        session.old (seen S.left S.faults K.taken K.faults source.old sink.old)
+        session.new result (seen S.left S.faults K.taken K.faults source.new sink.new) }
 
     // Other words ask for nothing: the usage is written, and all else stays.
     ensures usage { (AskForReplay (map string_bytes words.now) → ⊥) → WritesUsage
@@ -70,9 +72,9 @@ fn replay_words<S: Source, K: Sink>(
     session: &mut Session<Scripted>,
 ) -> Status
     requires { session.old.fresh ≡ true }
-    ensures kept { AskForReplay (map string_bytes words.now) → KeepsObjects
-        session.old.objects (seen S.left S.faults K.taken K.faults source.old sink.old)
-        session.new.objects result (seen S.left S.faults K.taken K.faults source.new sink.new) }
+    ensures kept { AskForReplay (map string_bytes words.now) → KeepsSession
+        session.old (seen S.left S.faults K.taken K.faults source.old sink.old)
+        session.new result (seen S.left S.faults K.taken K.faults source.new sink.new) }
     ensures usage { (AskForReplay (map string_bytes words.now) → ⊥) → WritesUsage
         (seen S.left S.faults K.taken K.faults source.old sink.old) result
         (seen S.left S.faults K.taken K.faults source.new sink.new) }
@@ -131,10 +133,10 @@ fn replay_lines<S: Source, K: Sink>(
     text: &mut Vec<u8>,
 ) -> Status
     requires reader { reader.old ≡ the_new_reader }
-    requires untouched { IsUntouched session.old.objects }
-    ensures kept { KeepsObjects
-        session.old.objects (seen S.left S.faults K.taken K.faults source.old sink.old)
-        session.new.objects result (seen S.left S.faults K.taken K.faults source.new sink.new) }
+    requires untouched { IsNew session.old }
+    ensures kept { KeepsSession
+        session.old (seen S.left S.faults K.taken K.faults source.old sink.old)
+        session.new result (seen S.left S.faults K.taken K.faults source.new sink.new) }
     ensures read { result ≡ Status.ReadFault → Rose (S.faults source.old) (S.faults source.new) }
     ensures write { result ≡ Status.WriteFault → Rose (K.faults sink.old) (K.faults sink.new) }
 {

@@ -1,53 +1,62 @@
-ghost use Rattle.std.specs.Prelude.{◌≡◌, true, false, IfOk, OnErr};
+ghost use Rattle.std.specs.Prelude.{◌≡◌, [], ◌∷◌, ◌++◌, true, false, length, IfOk, OnOk, OnErr};
 ghost use Rattle.hc_layout.specs.Shape.{IsShape};
-ghost use Rattle.hc_objects.specs.Came.{Moves};
-ghost use Rattle.hc_commands.specs.Verbs.{IsBuilt};
-ghost use Rattle.hc_session.specs.Fresh.{IsUntouched};
-ghost use Rattle.hc_session.specs.State.{Does, Stands, tables_of};
+ghost use Rattle.hc_objects.specs.Admitting.{ConstantsStay};
+ghost use Rattle.hc_session.specs.Fresh.{IsNew};
+ghost use Rattle.hc_session.specs.Logging.{mark_of};
+ghost use Rattle.hc_session.specs.Plain.{HasSiteNumber, IsServed};
+ghost use Rattle.hc_session.specs.State.{Does, Stands, Wants, answer_since};
 ghost use Rattle.hc_session.specs.Tables.{HasNumbers};
 
 use crate::Scripted;
-use crate::perform::perform;
+use crate::serve::serve;
 use hc_heap::Pace;
-use hc_layout::Shape;
-use hc_objects::{Objects, prototypes_stay_calm};
+use hc_layout::{Region, Shape};
+use hc_objects::{Objects, fields_stay_honest, prototypes_stay_calm};
+use hc_report::{Log, Mark, Marks};
 use hc_script::Command;
+use hc_sites::Sites;
 use hc_value::{Memory, Reply};
 use std::alloc::Global;
 use std::marker::Model;
 
-/// The objects, and all else that commands change, under a pace.
+/// The objects, the sites, the log and all else that commands change, under a pace.
 #[derive(Drop)]
 pub struct Session<P: Pace> {
     objects: Objects<P>,
-    begun: bool,
+    sites: Sites,
+    log: Log,
+    marks: Marks,
+    fresh: bool,
     alloc: Global,
 }
 
 impl<P: Pace> Model for Session<P> {
-    ghost use Rattle.hc_session.specs.State.{Standing};
+    ghost use Rattle.hc_session.specs.Standing.{Standing};
 
     ghost Value = { Standing P };
 
-    ghost use Rattle.std.specs.Prelude.{not};
     ghost use Rattle.hc_session.specs.Fresh.{IsSession};
 
-    ghost view = { λ s. record { objects = s.objects; fresh = not s.begun } };
+    ghost view = { λ s. record { objects = s.objects; sites = s.sites; log = s.log.lines; marks = s.marks; fresh = s.fresh } };
 
-    ghost invariant = { λ s. IsSession s.objects s.begun };
+    ghost invariant = { λ s. IsSession (record { objects = s.objects; sites = s.sites; log = s.log.lines; marks = s.marks; fresh = s.fresh }) };
 }
 
 impl Session<Scripted> {
     /// A session in which nothing was done.
     pub fn scripted(alloc: Global, shape: Shape) -> Result<Session<Scripted>, Memory>
         requires { IsShape shape }
-        ensures untouched { IfOk result (λ session. IsUntouched session.objects) }
+        ensures untouched { IfOk result (λ session. IsNew session) }
         ensures shape { IfOk result (λ session. session.objects.heap.view.shape ≡ shape) }
         ensures fresh { IfOk result (λ session. session.fresh ≡ true) }
     {
+        fields_stay_honest::<Scripted>();
         Ok(Session {
             objects: Objects::new(alloc, shape, Scripted)?,
-            begun: false,
+            sites: Sites::new(alloc),
+            log: Log::new(alloc),
+            marks: Marks::new(alloc),
+            fresh: true,
             alloc,
         })
     }
@@ -57,34 +66,75 @@ impl<P: Pace> Session<P> {
     /// Whether no command was performed.
     pub fn fresh(&self) -> bool
         ensures fresh { result ≡ self.now.fresh }
-        ensures untouched { result ≡ true → IsUntouched self.now.objects }
+        ensures untouched { result ≡ true → IsNew self.now }
     {
-        !self.begun
+        self.fresh
     }
 
     /// Performs a command. After want of memory the tables are as they were; how they are kept may have moved.
     pub fn command(&mut self, command: &Command) -> Result<Reply, Memory>
-        requires built { IsBuilt command.now }
+        requires served { IsServed command.now }
         requires numbers { HasNumbers command.now }
-        ensures done { IfOk result (λ reply. Does P.went self.old.objects command.now reply self.new.objects) }
-        ensures tables { OnErr result (tables_of self.new.objects ≡ tables_of self.old.objects) }
-        ensures moved { OnErr result (Moves P.went self.old.objects self.new.objects) }
+        requires room { HasSiteNumber (length self.old.sites) command.now }
+        ensures done { IfOk result (λ reply. Does P.went self.old command.now (answer_since self.old reply self.new) self.new) }
+        ensures wants { OnErr result (Wants P.went self.old self.new) }
         ensures stands { Stands self.new.objects }
+        ensures constants { ConstantsStay self.old.objects.heap.view.trail self.new.objects.heap.view.trail }
         ensures fresh { self.new.fresh ≡ false }
     {
         prototypes_stay_calm::<P>();
+        fields_stay_honest::<P>();
         self.objects.stands();
-        self.begun = true;
-        let reply = perform(&mut self.objects, command, self.alloc);
+        self.fresh = false;
+        self.put_mark()?;
+        let reply = serve(&mut self.objects, &mut self.sites, command, self.alloc);
         self.objects.stands();
         reply
+    }
+
+    // Takes the memory for all that a command may put into the log, a line for each site and one of its own, and puts its mark.
+    fn put_mark(&mut self) -> Result<(), Memory>
+        requires begun { self.old.fresh ≡ false }
+        ensures ok { OnOk result (self.new ≡ record self.old { marks = self.old.marks ++ mark_of self.old ∷ [] }) }
+        ensures err { OnErr result (self.new ≡ self.old) }
+    {
+        self.log.reserve(u64::from(self.sites.len()) + 1)?;
+        let mark = Mark {
+            at: self.objects.writes(),
+            met: self.objects.met(),
+            lines: self.log.len(),
+            slots: self.objects.used(Region::Slots),
+        };
+        self.marks.push(mark)?;
+        Ok(())
+    }
+
+    /// How many sites were declared.
+    pub fn sites(&self) -> u32
+        ensures { result ≡ length self.now.sites }
+    {
+        self.sites.len()
+    }
+
+    /// The lines so far, each with how many stores there were before it.
+    pub fn log(&self) -> &Log
+        ensures { result.now.lines ≡ self.now.log }
+    {
+        &self.log
+    }
+
+    /// What stood when each command began.
+    pub fn marks(&self) -> &Marks
+        ensures { result.now ≡ self.now.marks }
+    {
+        &self.marks
     }
 
     /// What holds of the objects, and where no command was performed.
     pub fn stands(&self)
         ensures stands { Stands self.now.objects }
         ensures fits { P.fits self.now.objects.heap.pace self.now.objects.heap.desk.board }
-        ensures untouched { self.now.fresh ≡ true → IsUntouched self.now.objects }
+        ensures untouched { self.now.fresh ≡ true → IsNew self.now }
     {
         self.objects.stands();
     }

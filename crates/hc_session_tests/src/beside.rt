@@ -2,8 +2,8 @@ ghost use Rattle.std.specs.Prelude.{◌≡◌, ◌<◌, ◌≤◌, ◌&&◌, ◌
 ghost use Rattle.hc_layout.specs.Shape.{IsShape};
 ghost use Rattle.hc_commands.specs.Definition.{IsGivenAccessor};
 ghost use Rattle.hc_commands.specs.Numbers.{IsDescriptorBelow, IsGivenBelow, IsValueBelow};
-ghost use Rattle.hc_commands.specs.Verbs.{IsBuilt};
 ghost use Rattle.hc_value.specs.declared.word.TheConstants.{NUMBER_LIMIT, TEXT_LIMIT};
+ghost use Rattle.hc_session.specs.Plain.{IsServed};
 ghost use Rattle.hc_session.specs.Tables.{HasNumbers, IsOnTables};
 
 use hc_layout::Shape;
@@ -106,7 +106,7 @@ fn drawn_descriptor(state: &mut u64) -> PropDesc
 
 // A command that asks, of one of twelve objects and sixteen names.
 fn drawn_question(state: &mut u64) -> Command
-    ensures built { IsBuilt result }
+    ensures served { IsServed result }
     ensures tables { IsOnTables result }
     ensures numbers { HasNumbers result }
 {
@@ -124,7 +124,7 @@ fn drawn_question(state: &mut u64) -> Command
 
 // A command that changes.
 fn drawn_change(state: &mut u64) -> Command
-    ensures built { IsBuilt result }
+    ensures served { IsServed result }
     ensures tables { IsOnTables result }
     ensures numbers { HasNumbers result }
 {
@@ -141,7 +141,7 @@ fn drawn_change(state: &mut u64) -> Command
 
 // A command that restricts an object. These are drawn seldom, so that most objects may change for long.
 fn drawn_restriction(state: &mut u64) -> Command
-    ensures built { IsBuilt result }
+    ensures served { IsServed result }
     ensures tables { IsOnTables result }
     ensures numbers { HasNumbers result }
 {
@@ -154,7 +154,7 @@ fn drawn_restriction(state: &mut u64) -> Command
 }
 
 fn drawn(state: &mut u64) -> Command
-    ensures built { IsBuilt result }
+    ensures served { IsServed result }
     ensures tables { IsOnTables result }
     ensures numbers { HasNumbers result }
 {
@@ -202,7 +202,7 @@ fn perform_both(
     command: &Command,
     alloc: Global,
 ) -> Result<(), Fail>
-    requires built { IsBuilt command.now }
+    requires served { IsServed command.now }
     requires tables { IsOnTables command.now }
     requires numbers { HasNumbers command.now }
     requires few { plain.old.limit ≤ NUMBER_LIMIT }

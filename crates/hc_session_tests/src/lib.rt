@@ -1,8 +1,10 @@
-//! Tests of the session that no script reaches: small shapes, sources that are cut or fail, sinks that fail, and drawn
-//! commands on objects beside plain tables.
+//! Tests of the session that no script reaches: small shapes, sources that are cut or fail, sinks that fail, drawn commands
+//! on objects beside plain tables, and sites, which no line declares yet.
 #![tactic(auto)]
 
 #[cfg(test)]
 mod beside;
 #[cfg(test)]
 mod outside;
+#[cfg(test)]
+mod sites;

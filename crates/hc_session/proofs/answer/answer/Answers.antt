@@ -1,14 +1,21 @@
-use Rattle.std.proofs.Common.{◌≡◌, ℕ, List, ◌++◌, true, ◌∙◌, sym, ap, Ok, Err}
+use Rattle.std.proofs.Common.{◌≡◌, ℕ, List, ◌++◌, length, drop, true, refl, ◌∙◌, sym, ap, Ok, Err}
 use Rattle.std.specs.Prelude.{Result, OnOk, is_ok}
-use Rattle.hc_report.specs.Text.{reply_line}
+use Rattle.hc_report.specs.declared.line.Line.{Line}
+use Rattle.hc_session.specs.Logging.{log_text}
+use Rattle.hc_session.specs.Plain.{answer_text}
+use Rattle.hc_session.specs.State.{answer_since}
+use Rattle.hc_session.proofs.Declares.{number_left}
 use Rattle.hc_session.proofs.NamedWorlds.{numbers_held, replies_show, tables_keep}
 use Rattle.hc_session.proofs.answer.answer.Goals as goal
 
 pub command-requires-clause-numbers : goal.command-requires-clause-numbers
 command-requires-clause-numbers g c = numbers_held _ _ c.requires.names c.requires.command
 
-pub render_reply-requires : goal.render_reply-requires
-render_reply-requires g c = record { named = replies_show _ _ _ _ _ c.in-Ok.ensures.done.answers c.requires.world c.requires.command }
+pub command-requires-clause-room : goal.command-requires-clause-room
+command-requires-clause-room g c = number_left _ _ c.requires.sites
+
+pub render_answer-requires : goal.render_answer-requires
+render_answer-requires g c = record { named = replies_show _ _ _ _ _ c.in-Ok.ensures.done.answers c.requires.world c.requires.command }
 
 pub returns-in-Ok-write_piece-clause-world : goal.returns-in-Ok-write_piece-clause-world
 returns-in-Ok-write_piece-clause-world g c = tables_keep _ _ _ _ _ c.in-Ok.ensures.done.answers c.requires.world c.requires.command
@@ -18,16 +25,23 @@ where_ok : {A B : Type 0} (r : Result A B) (P : Type 0) → is_ok r ≡ true →
 where_ok {A} {B} (Ok a) P ok holds = holds
 where_ok {A} {B} (Err b) P ok holds = absurd (cc)
 
+-- the lines that were rendered are those that the log has got since
+same_lines : (old new now : List (ℕ × Line)) (from : ℕ) → from ≡ length old → now ≡ new → log_text (drop from now) ≡ log_text (drop (length old) new)
+same_lines old new now from first second = rw (first, second) refl
+
 pub returns-clause-write : goal.returns-clause-write
 returns-clause-write g c failed =
     let written = c.in-Err.ensures.err in
-    let line = reply_line c.args.names.now c.in-Ok.reply in
+    let answer = answer_since c.args.session.now c.in-Ok.reply c.command.new.self in
+    let line = answer_text c.args.names.now answer in
+    let lines = same_lines c.args.session.now.log c.command.new.self.log c.log-2.result.now.lines c.len-before.result (c.len-before.ensures ∙ ap (λ (xs : List (ℕ × Line)). length xs) c.log.ensures) c.log-2.ensures in
+    let rendered = where_ok c.render_answer.result (c.render_answer.new.out.items ≡ c.clear.new.self.items ++ answer_text c.args.names.now (record { log = log_text (drop c.len-before.result c.log-2.result.now.lines); reply = c.in-Ok.reply })) c.if-is_err.ensures.negation c.render_answer.ensures.ok in
     let text : c.deref.result.now ≡ line =
-    c.deref.ensures.value
-    ∙ where_ok c.render_reply.result (c.render_reply.new.out.items ≡ c.clear.new.self.items ++ line) c.if-is_err.ensures.negation c.render_reply.ensures.ok
+    c.deref.ensures.value ∙ rendered
+    ∙ ap (λ (t : List ℕ). c.clear.new.self.items ++ answer_text c.args.names.now (record { log = t; reply = c.in-Ok.reply })) lines
     ∙ ap (λ (xs : List ℕ). xs ++ line) c.clear.ensures.items in
     record {
-      reply = c.in-Ok.reply;
+      answer = answer;
       does = c.in-Ok.ensures.done;
       written = (written.0, (written.1.0, written.1.1, sym text ∙ written.1.2), written.2);
     }

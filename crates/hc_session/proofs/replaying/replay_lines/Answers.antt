@@ -1,7 +1,9 @@
-use Rattle.std.proofs.Common.{refl, ap, arith}
+use Rattle.std.proofs.Common.{List, length, refl, ap, arith}
+use Rattle.hc_sites.specs.declared.state.SiteState.{SiteState}
 use Rattle.hc_script.specs.Reader.{Reader}
 use Rattle.hc_session.specs.Replay.{the_first_place}
 use Rattle.hc_session.specs.State.{Does, any_pace}
+use Rattle.hc_session.proofs.Declares.{built_is_served}
 use Rattle.hc_session.proofs.Endings.{nothing_held}
 use Rattle.hc_session.proofs.Runs.{no_progress, progress_on}
 use Rattle.hc_session.proofs.Takes.{command_moves, command_within, command_keeps_names}
@@ -14,6 +16,12 @@ pub answer-requires-clause-world : goal.answer-requires-clause-world
 answer-requires-clause-world g c =
     let took = rw c.in-Ok-Some.field-0-is at (c.in-Ok-Some.ensures.serves c.commands.invariant.going) in
     rw c.names.ensures.names (world_kept _ _ _ (command_keeps_names c.commands_are_named.ensures.grow _ _ _ _ _ took) c.commands.invariant.named)
+
+pub answer-requires-clause-served : goal.answer-requires-clause-served
+answer-requires-clause-served g c = built_is_served c.in-Ok-Some.command (rw c.in-Ok-Some.field-0-is at c.in-Ok-Some.ensures.built)
+
+pub answer-requires-clause-sites : goal.answer-requires-clause-sites
+answer-requires-clause-sites g c = omega (arith, c.commands.invariant.sites, c.commands.invariant.within)
 
 pub commands-smaller : goal.commands-smaller
 commands-smaller g c =
@@ -29,6 +37,7 @@ commands-preserved g c =
       within = command_within _ _ _ _ _ took;
       progress = progress_on _ _ _ _ _ _ _ _ _ _ _ _ _ _ c.commands.invariant.progress took answered.does answered.written;
       named = rw c.names.ensures.names at c.in-Ok.ensures.world;
+      sites = omega (arith, c.commands.invariant.sites, c.in-Ok.ensures.sites, command_moves _ _ _ _ _ took);
       reads = omega (arith, c.commands.invariant.reads, c.in-Ok-Some.ensures.grows);
       writes = omega (arith, c.commands.invariant.writes, c.in-Ok.ensures.grows);
     }
@@ -65,8 +74,9 @@ commands-init g c = record {
   going = ap (λ (r : Reader). r.phase) c.requires.reader;
   within = rw c.requires.reader (omega arith);
   progress = rw (c.requires.reader, nothing_held (g.S.Source.left c.args.source.now))
-      (no_progress (Does any_pace) (the_first_place c.args.session.now.objects) (g.S.Source.left c.args.source.now) (g.K.Sink.taken c.args.sink.now));
-  named = rw c.requires.untouched.world (λ o. tt);
+      (no_progress (Does any_pace) (the_first_place c.args.session.now) (g.S.Source.left c.args.source.now) (g.K.Sink.taken c.args.sink.now));
+  named = rw c.requires.untouched.objects.world (λ o. tt);
+  sites = omega (arith, ap (λ (xs : List SiteState). length xs) c.requires.untouched.sites);
   reads = omega arith;
   writes = omega arith;
 }

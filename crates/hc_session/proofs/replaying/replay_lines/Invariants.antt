@@ -17,9 +17,10 @@ invariant-commands g l =
     record {
       going : l.reader.phase ≡ Going;
       within : l.reader.at.bytes ≤ MAX_BYTES;
-      progress : Progress (Does any_pace) (the_first_place l.initial.session.objects) (left l.initial.source) (taken l.initial.sink)
-          l.reader.at l.session.objects (ahead l.reader.pending (left l.source)) (taken l.sink);
+      progress : Progress (Does any_pace) (the_first_place l.initial.session) (left l.initial.source) (taken l.initial.sink)
+          l.reader.at l.session (ahead l.reader.pending (left l.source)) (taken l.sink);
       named : IsNamedWorld (length l.reader.at.names) (world_of l.session.objects);
+      sites : length l.session.sites ≤ l.reader.at.bytes;
       reads : g.S.Source.faults l.initial.source ≤ g.S.Source.faults l.source;
       writes : g.K.Sink.faults l.initial.sink ≤ g.K.Sink.faults l.sink;
     }

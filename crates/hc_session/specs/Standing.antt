@@ -1,0 +1,29 @@
+-- What contracts see of a session.
+use Rattle.std.specs.Prelude.{ℕ, Bool, List, map}
+use Rattle.hc_table.specs.Kept.{Kept as Tables}
+use Rattle.hc_objects.specs.Came.{world_of}
+use Rattle.hc_objects.specs.State.{ObjectsState}
+use Rattle.hc_report.specs.declared.line.Line.{Line}
+use Rattle.hc_report.specs.declared.marks.Mark.{Mark}
+use Rattle.hc_sites.specs.declared.state.SiteState.{SiteState}
+use Rattle.hc_session.specs.Plain.{PlainState}
+
+-- the objects with their pace; the sites; the log, each line with how many stores there were before it, and the marks; and
+-- whether no command was performed yet
+pub record Standing (P : Type 0) : Type 0 where
+  pub objects : ObjectsState P
+  pub sites : List SiteState
+  pub log : List (ℕ × Line)
+  pub marks : List Mark
+  pub fresh : Bool
+
+-- the objects as property tables
+abbrev pub tables_of : {P : Type 0} → ObjectsState P → Tables
+tables_of objects = record { world = world_of objects; limit = objects.heap.view.shape.objects }
+
+-- objects and sites, as property tables with sites
+abbrev pub plain_with : {P : Type 0} → ObjectsState P → List SiteState → PlainState
+plain_with objects sites = record { tables = tables_of objects; sites = map (λ (state : SiteState). state.site) sites }
+
+abbrev pub plain_of : {P : Type 0} → Standing P → PlainState
+plain_of session = plain_with session.objects session.sites
