@@ -53,6 +53,7 @@ impl<P: Pace> Heap<P> {
     }
 
     // The word of an item, by one load.
+    #[inline]
     pub(crate) fn word(&mut self, kind: Kind, item: u32) -> u64
         ensures says { Says kind self.old.view.trail item result }
         ensures new { self.new ≡ record self.old { desk = one_load self.old.desk } }

@@ -31,6 +31,7 @@ pub enum Kind {
 
 impl Kind {
     /// The region whose items have a word of this kind.
+    #[inline]
     fn region(self) -> Region
         ensures { result ≡ region_of self }
     {
@@ -59,6 +60,7 @@ impl Kind {
     }
 
     /// Which word of an item it is.
+    #[inline]
     fn word(self) -> u32
         ensures { result ≡ word_of self }
     {
@@ -87,6 +89,7 @@ impl Kind {
     }
 
     /// The place of the word of an item.
+    #[inline]
     pub fn place(self, item: u32) -> Place
         ensures { result ≡ place_at self item }
     {

@@ -14,16 +14,16 @@ ghost use Rattle.hc_heap.specs.States.{IsWords, IsHeap, KeepsArrays, OneStore, E
 use crate::kind::Kind;
 use crate::pace::Pace;
 use hc_board::{Board, Reader, Writer, image_is_wide};
-use hc_layout::{Region, Shape, places_are_found, places_lie};
+use hc_layout::{Layout, Region, Shape, places_are_found, places_lie};
 use hc_value::Memory;
 use std::alloc::Global;
 use std::marker::Model;
 
-/// The board's writer, the shape of the board, and how many items of each region were handed out.
+/// The board's writer, the board's layout, and how many items of each region were handed out.
 #[derive(Drop)]
 pub(crate) struct Words {
     pub(crate) writer: Writer,
-    shape: Shape,
+    layout: Layout,
     used: Shape,
 }
 
@@ -33,9 +33,9 @@ impl Model for Words {
 
     ghost Value = { WordsState };
 
-    ghost view = { λ w. record { view = record { shape = w.shape; trail = typed w.shape w.writer.trail; used = w.used }; desk = w.writer } };
+    ghost view = { λ w. record { view = record { shape = w.layout; trail = typed w.layout w.writer.trail; used = w.used }; desk = w.writer } };
 
-    ghost invariant = { λ w. IsWords (record { shape = w.shape; trail = typed w.shape w.writer.trail; used = w.used }) w.writer };
+    ghost invariant = { λ w. IsWords (record { shape = w.layout; trail = typed w.layout w.writer.trail; used = w.used }) w.writer };
 }
 
 impl Words {
@@ -60,24 +60,26 @@ impl Words {
         };
         Ok(Words {
             writer,
-            shape,
+            layout: Layout::new(shape),
             used,
         })
     }
 
+    #[inline]
     // Where the word of an item lies, or else the end of the board.
     fn index(&self, kind: Kind, item: u32) -> u32
         ensures { (words : List ℕ) → length words ≡ words_of self.now.view.shape → slice_index words result ≡ word_in self.now.view.shape words kind item }
     {
         let place = kind.place(item);
-        if item < self.shape.items(place.region) {
-            self.shape.index(place)
+        if item < self.layout.items(place.region) {
+            self.layout.index(place)
         } else {
-            self.shape.words()
+            self.layout.words()
         }
     }
 
     /// The word of an item, by one load.
+    #[inline]
     pub(crate) fn load(&mut self, kind: Kind, item: u32) -> u64
         ensures says { Says kind self.old.view.trail item result }
         ensures new { self.new ≡ record self.old { desk = one_load self.old.desk } }
@@ -99,7 +101,7 @@ impl Words {
         ensures one { OneStore self.old.desk self.new.desk }
         ensures words { IsWords self.new.view self.new.desk }
     {
-        let index = self.shape.index(kind.place(item));
+        let index = self.layout.index(kind.place(item));
         self.writer.store(index, word);
     }
 
@@ -187,7 +189,7 @@ impl Words {
     pub(crate) fn room(&self, region: Region, n: u32) -> bool
         ensures { IsTrue result ↔ HasRoom self.now.view region n }
     {
-        n <= self.shape.items(region) - self.used.items(region)
+        n <= self.layout.items(region) - self.used.items(region)
     }
 
     /// Hands out the next items of a region. The answer is the first of them.

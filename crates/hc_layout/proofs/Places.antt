@@ -96,3 +96,7 @@ found s i r a w h k e =
     let item : (i - start_of s r) / item_words r ≡ (i - a) / w = cc in
     let word : (i - start_of s r) % item_words r ≡ (i - a) % w = cc in
     subst (IsAt s i) (same_place r _ _ ((i - a) / w) ((i - a) % w) item word) (place_is s i r (sym e))
+
+-- the sum that the program computes is the index
+pub summed : (s : Shape) (p : Place) (a w : ℕ) → a ≡ start_of s p.region → w ≡ item_words p.region → index_of s p ≡ a + p.item * w + p.word
+summed s p a w h k = cc

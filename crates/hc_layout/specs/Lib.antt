@@ -1,5 +1,6 @@
 pub mod Bits
 pub mod Capacity
+pub mod Layout
 pub mod Place
 pub mod Shape
 pub mod Words

@@ -6,6 +6,7 @@
 mod bits;
 mod capacity;
 mod laws;
+mod layout;
 mod place;
 mod shape;
 mod words;
@@ -13,6 +14,7 @@ mod words;
 pub use bits::Bits;
 pub use capacity::{CAPACITIES, MAX_FAST, cap};
 pub use laws::{places_are_found, places_lie};
+pub use layout::Layout;
 pub use place::Place;
 pub use shape::{Region, SMALL, Shape, USUAL};
 pub use words::{

@@ -16,6 +16,7 @@ pub enum Region {
 
 impl Region {
     /// The number of words that an item has.
+    #[inline]
     pub fn item_words(self) -> u32
         ensures { result ≡ item_words self }
     {
@@ -95,6 +96,7 @@ impl Shape {
     }
 
     /// How many items a region has.
+    #[inline]
     pub fn items(&self, region: Region) -> u32
         ensures { result ≡ items_of self.now region }
     {

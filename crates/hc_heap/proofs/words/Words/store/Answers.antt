@@ -8,9 +8,9 @@ use Rattle.hc_heap.specs.States.{WordsState, KeepsArrays, with_write}
 use Rattle.hc_heap.proofs.Stores.{HasStored, has-stored}
 use Rattle.hc_heap.proofs.words.Words.store.Goals as goal
 
-stored : (c : goal.After-store) → HasStored c.self.inside.shape c.self.inside.used c.self.inside.writer c.store.new.self c.args.kind c.args.item c.args.word
+stored : (c : goal.After-store) → HasStored c.self.inside.layout c.self.inside.used c.self.inside.writer c.store.new.self c.args.kind c.args.item c.args.word
 stored c =
-    has-stored c.self.inside.shape c.self.inside.used c.self.inside.writer c.store.new.self c.args.kind c.args.item c.index-index.result c.args.word c.store.ensures.new c.self.invariant
+    has-stored c.self.inside.layout c.self.inside.used c.self.inside.writer c.store.new.self c.args.kind c.args.item c.index-index.result c.args.word c.store.ensures.new c.self.invariant
     (subst (λ (w : WordsState). c.args.item < items_of w.view.used (region_of c.args.kind)) (sym c.self.view_is) c.requires.handed)
     (subst (λ (w : WordsState). LawfulWrite w.view.shape w.view.trail (written c.args.kind c.args.item c.args.word)) (sym c.self.view_is) c.requires.lawful)
     (subst (λ (w : WordsState). KeepsArrays w.view c.args.kind c.args.item c.args.word) (sym c.self.view_is) c.requires.arrays)
