@@ -1,5 +1,5 @@
 -- A new array, given to a map.
-use Rattle.std.proofs.Common.{◌≡◌, ℕ, ◌+◌, ◌<◌, Option, Some, [], ◌∷◌, refl, ap, sym, ◌∙◌}
+use Rattle.std.proofs.Common.{◌≡◌, ℕ, ◌+◌, ◌<◌, cond, eqb, Option, Some, [], ◌∷◌, refl, ap, sym, ◌∙◌}
 use Rattle.hc_layout.specs.Capacity.{cap_of}
 use Rattle.hc_layout.specs.declared.shape.Shape.{Shape}
 use Rattle.hc_layout.specs.declared.words.ArrayWord.{ArrayWord}
@@ -11,7 +11,7 @@ use Rattle.hc_heap.specs.Lawful.{Lawful, key_from, field_from}
 use Rattle.hc_heap.specs.Kept.{Adds, GoesOn, EntriesAreKept, EntriesStay}
 use Rattle.hc_heap.specs.Frames.{adds-one, adds-on, adds-wider, goes-on-of}
 use Rattle.hc_descs.specs.Entries.{AreFree, key_at, field_at}
-use Rattle.hc_descs.specs.Copies.{own_array, FillsArray, HasEntriesOf, HasKeysOf, IsEntry, HasOwnArray}
+use Rattle.hc_descs.specs.Copies.{own_array, FillsArray, HasEntriesBut, HasEntriesOf, HasKeysOf, IsEntry, HasOwnArray, field_but}
 use Rattle.hc_descs.specs.Filling.{FillsEntries}
 use Rattle.hc_descs.proofs.Filled.{Has, itself}
 
@@ -69,6 +69,13 @@ pub given-keys : (s : Shape) (old now : Trail) (c first m from : ℕ) (g : GateW
 given-keys s old now c first m from g a law h lawful gate has = record {
   keys = λ k lt. given-key now c first a k ∙ (has.keys k lt ∙ sym (stays s old now c first m k g a law h lawful gate lt).key);
   fields = λ k lt. given-field now c first a k ∙ has.fields k lt;
+}
+
+pub given-but : (s : Shape) (old now : Trail) (c first m place field : ℕ) (g : GateWord) (a : ArrayWord) → EntriesAreKept → Adds (FillsEntries first) old now → Lawful s (given now c first a)
+    → gate_in old m ≡ Some g → Has now first g.entries (key_at old m) (field_but old m place field) → HasEntriesBut (given now c first a) c m g.entries place field
+given-but s old now c first m place field g a law h lawful gate has = record {
+  keys = λ k lt. given-key now c first a k ∙ (has.keys k lt ∙ sym (stays s old now c first m k g a law h lawful gate lt).key);
+  fields = λ k lt. given-field now c first a k ∙ (has.fields k lt ∙ ap (λ (o : Option ℕ). cond (eqb k place) (Some field) o) (sym (stays s old now c first m k g a law h lawful gate lt).field));
 }
 
 -- giving an array to a map writes no entries

@@ -1,5 +1,5 @@
 -- Arrays of entries that are made for a new map.
-use Rattle.std.specs.Prelude.{◌≡◌, ℕ, ◌+◌, ◌<◌, ◌≤◌, ◌==◌, if◌then◌else◌, true, Some}
+use Rattle.std.specs.Prelude.{◌≡◌, ℕ, ◌+◌, ◌<◌, ◌≤◌, ◌==◌, if◌then◌else◌, true, Option, Some}
 use Rattle.hc_layout.specs.Capacity.{cap_of}
 use Rattle.hc_layout.specs.declared.words.ArrayWord.{ArrayWord}
 use Rattle.hc_value.specs.declared.key.Key.{Key}
@@ -37,6 +37,15 @@ pub record HasEntriesOf (t : Trail) (c m n : ℕ) : Type 0 where
 pub record HasKeysOf (t : Trail) (c m n field : ℕ) : Type 0 where
   pub keys : (k : ℕ) → k < n → key_at t c k ≡ key_at t m k
   pub fields : (k : ℕ) → k < n → field_at t c k ≡ Some (field + k)
+
+-- the field of a map's k-th entry, but for another one at a place
+abbrev pub field_but : Trail → ℕ → ℕ → ℕ → ℕ → Option ℕ
+field_but t m place field k = if k == place then Some field else field_at t m k
+
+-- the first n entries of a map are those of another, but for the field at a place
+pub record HasEntriesBut (t : Trail) (c m n place field : ℕ) : Type 0 where
+  pub keys : (k : ℕ) → k < n → key_at t c k ≡ key_at t m k
+  pub fields : (k : ℕ) → k < n → field_at t c k ≡ field_but t m place field k
 
 -- the n-th entry of a map
 pub record IsEntry (t : Trail) (c n : ℕ) (its_key : Key) (its_field : ℕ) : Type 0 where

@@ -1,4 +1,4 @@
-ghost use Rattle.std.specs.Prelude.{◌≡◌, ℕ, ◌+◌, ◌<◌, ◌≤◌, Some, None, IsSome, IsSomeAnd};
+ghost use Rattle.std.specs.Prelude.{◌≡◌, ℕ, ◌+◌, ◌<◌, ◌≤◌, ◌==◌, if◌then◌else◌, Some, None, IsSome, IsSomeAnd};
 ghost use Rattle.hc_layout.specs.Capacity.{cap_of};
 ghost use Rattle.hc_layout.specs.declared.capacity.TheConstants.{MAX_FAST};
 ghost use Rattle.hc_layout.specs.declared.shape.Region.TheVariants.{Entries};
@@ -7,7 +7,7 @@ ghost use Rattle.hc_heap.specs.Lawful.{IsField, IsKey, HaveEntries};
 ghost use Rattle.hc_heap.specs.Kept.{Adds};
 ghost use Rattle.hc_heap.specs.States.{IsHeap, Goes, HasRoom};
 ghost use Rattle.hc_descs.specs.Entries.{AreFree, count_of, key_at, field_at};
-ghost use Rattle.hc_descs.specs.Copies.{FillsArray, HasEntriesOf, HasKeysOf, IsEntry, HasOwnArray};
+ghost use Rattle.hc_descs.specs.Copies.{FillsArray, HasEntriesBut, HasEntriesOf, HasKeysOf, IsEntry, HasOwnArray, field_but};
 ghost use Rattle.hc_descs.specs.Filling.{IsFilled};
 
 use crate::entry::{field_of, give_array, key_of, put_entry};
@@ -56,6 +56,36 @@ fn copy_entry_keys<P: Pace>(h: &mut Heap<P>, map: u32, to: u32, n: u32, first: u
     for k in 0..n {
         let key = key_of(h, from + k);
         put_entry(h, to + k, key, first + k);
+    }
+}
+
+// Another field at one place, and an entry's own at all others.
+fn chosen(own: u32, k: u32, place: u32, field: u32) -> u32
+    ensures { result ≡ if k == place then field else own }
+{
+    if k == place { field } else { own }
+}
+
+// Writes the first n entries of a map again, from a new entry on, with another field at one place.
+fn copy_entries_but<P: Pace>(h: &mut Heap<P>, map: u32, to: u32, n: u32, place: u32, field: u32)
+    requires entries { HaveEntries h.old.view.trail (base_in h.old.view.trail map) n }
+    requires handed { to + n ≤ h.old.view.used.entries }
+    requires free { AreFree h.old.view.trail to }
+    requires field { field < h.old.view.shape.fields }
+    ensures view { h.new.view ≡ record h.old.view { trail = h.new.view.trail } }
+    ensures filled { IsFilled h.old.view.trail h.new.view.trail to n (key_at h.old.view.trail map) (field_but h.old.view.trail map place field) }
+    ensures heap { IsHeap h.new.view }
+    ensures goes { Goes h.old.desk h.new.desk }
+    ensures went { P.went h.old.pace h.old.desk.trail h.new.desk.trail h.new.pace }
+{
+    h.stands();
+    let Some(from) = h.base(map) else {
+        return;
+    };
+    for k in 0..n {
+        let key = key_of(h, from + k);
+        let own = field_of(h, from + k);
+        put_entry(h, to + k, key, chosen(own, k, place, field));
     }
 }
 
@@ -117,6 +147,36 @@ pub fn copy_all<P: Pace>(h: &mut Heap<P>, map: u32, child: u32)
     let capacity = cap(n);
     let base = h.fresh(Region::Entries, capacity);
     copy_entries(h, map, base, n);
+    give_array(h, child, base, capacity);
+}
+
+/// Gives a map that isn't open yet, and has no array, one of its own: the entries of an open map, with another field at
+/// one place.
+pub fn copy_but<P: Pace>(h: &mut Heap<P>, map: u32, child: u32, place: u32, field: u32)
+    requires open { IsSomeAnd (gate_in h.old.view.trail map) (λ g. place < g.entries) }
+    requires handed { child < h.old.view.used.maps }
+    requires closed { gate_in h.old.view.trail child ≡ None }
+    requires bare { array_in h.old.view.trail child ≡ no_array }
+    requires field { IsField h.old.view.trail field }
+    requires room { HasRoom h.old.view Entries (cap_of (count_of h.old.view.trail map)) }
+    ensures shape { h.new.view.shape ≡ h.old.view.shape }
+    ensures used { h.new.view.used ≡ record h.old.view.used { entries = h.old.view.used.entries + cap_of (count_of h.old.view.trail map) } }
+    ensures writes { Adds (FillsArray child h.old.view.used.entries) h.old.view.trail h.new.view.trail }
+    ensures all { HasEntriesBut h.new.view.trail child map (count_of h.old.view.trail map) place field }
+    ensures array { HasOwnArray h.new.view.trail child (count_of h.old.view.trail map) h.old.view.used.entries }
+    ensures spare { AreFree h.new.view.trail (h.old.view.used.entries + count_of h.old.view.trail map) }
+    ensures heap { IsHeap h.new.view }
+    ensures goes { Goes h.old.desk h.new.desk }
+    ensures went { P.went h.old.pace h.old.desk.trail h.new.desk.trail h.new.pace }
+{
+    gates_are_open();
+    entries_are_kept();
+    unused_says_nothing();
+    h.stands();
+    let n = h.gate(map).unwrap().entries;
+    let capacity = cap(n);
+    let base = h.fresh(Region::Entries, capacity);
+    copy_entries_but(h, map, base, n, place, field);
     give_array(h, child, base, capacity);
 }
 

@@ -6,6 +6,6 @@ mod entry;
 mod lookup;
 mod reading;
 
-pub use copies::{copy, copy_all, copy_keys};
+pub use copies::{copy, copy_all, copy_but, copy_keys};
 pub use lookup::find;
 pub use reading::{field_at, key_at};
