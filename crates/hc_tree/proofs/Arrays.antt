@@ -5,14 +5,14 @@ use Rattle.hc_layout.specs.Capacity.{cap_of}
 use Rattle.hc_layout.specs.declared.words.ArrayWord.{ArrayWord}
 use Rattle.hc_value.specs.declared.field.Detail.{Detail}
 use Rattle.hc_heap.specs.Writes.{Trail, Write, Base, Array, EntryKey, Reference, Owner, FieldDetail}
-use Rattle.hc_heap.specs.Readings.{no_array, base_in, array_in, entry_key_in, reference_in, detail_in}
+use Rattle.hc_heap.specs.Readings.{no_array, base_in, array_in, entry_key_in, reference_in}
 use Rattle.hc_heap.specs.Kept.{Adds}
 use Rattle.hc_heap.specs.Frames.{same-after}
 use Rattle.hc_heap.specs.States.{AreArraysThere}
 use Rattle.hc_descs.specs.Entries.{AreFree, field_at}
 use Rattle.hc_descs.specs.Copies.{array_for, own_array, HasArray, HasOwnArray}
 use Rattle.hc_tree.specs.Tree.{AreNarrow, IsNarrow}
-use Rattle.hc_tree.specs.Copying.{FillsCopy, detail_of, detail_at, with_field}
+use Rattle.hc_tree.specs.Copying.{FillsCopy, detail_of, detail_at}
 
 -- the array of some entries
 pub array-some : (n : ℕ) → 0 < n → array_for n ≡ own_array (cap_of n)
@@ -101,22 +101,6 @@ module _ (c e f m : ℕ) (apart : c ≡ m → ⊥) where
       }
 
 -- Details that aren't wide
-
-detail-case : (t : Trail) (f x : ℕ) (d e : Detail) (b : Bool) → eqb f x ≡ b → AreNarrow t → IsNarrow d → cond b (Some d) (detail_in t x) ≡ Some e → IsNarrow e
-detail-case t f x d e true is narrow here at = let same : d ≡ e = cc in subst IsNarrow same here
-detail-case t f x d e false is narrow here at = narrow x e at
-
--- a new field
-pub narrow-field : (t : Trail) (f c : ℕ) (d : Detail) → AreNarrow t → IsNarrow d → AreNarrow (with_field t f c d)
-narrow-field t f c d narrow here = λ x e is. detail-case t f x d e (eqb f x) refl narrow here is
-
--- a detail that is written
-pub narrow-write : (t : Trail) (f : ℕ) (d : Detail) → AreNarrow t → IsNarrow d → AreNarrow (FieldDetail f d ∷ t)
-narrow-write t f d narrow here = λ x e is. detail-case t f x d e (eqb f x) refl narrow here is
-
--- where no detail was written
-pub narrow-same : (a b : Trail) → ((x : ℕ) → detail_in b x ≡ detail_in a x) → AreNarrow a → AreNarrow b
-narrow-same a b same narrow = λ x e is. narrow x e (sym (same x) ∙ is)
 
 -- the detail of an entry's field
 pub narrow-at : (t : Trail) (m k : ℕ) (d : Detail) → AreNarrow t → detail_at t m k ≡ Some d → IsNarrow d

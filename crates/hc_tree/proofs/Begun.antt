@@ -22,11 +22,11 @@ use Rattle.hc_descs.specs.Copies.{FillsArray, HasArray, HasOwnArray, HasEntriesO
 use Rattle.hc_links.specs.Chains.{links_in}
 use Rattle.hc_links.specs.Laws.{LinksAreChained}
 use Rattle.hc_tree.specs.Kept.{MapsStay, MapsAreKept}
-use Rattle.hc_tree.specs.Tree.{gate_with, tagged_field, AreNarrow, IsNarrow, IsProperKey, IsDeadFor, IsSoundMap, IsTree}
+use Rattle.hc_tree.specs.Tree.{gate_with, tagged_field, IsProperKey, IsDeadFor, IsSoundMap, IsTree}
 use Rattle.hc_tree.specs.Details.{NoMap, Reshapes}
 use Rattle.hc_tree.specs.Growth.{MayGrow, MakesMap, IsReadyChild}
 use Rattle.hc_tree.specs.Copying.{with_field}
-use Rattle.hc_tree.proofs.Arrays.{filled-array, own-has, narrow-field, narrow-same}
+use Rattle.hc_tree.proofs.Arrays.{filled-array, own-has}
 use Rattle.hc_tree.proofs.Filled.{array-wider}
 use Rattle.hc_tree.proofs.Keeping.{SameLives, same-lives, array-kept, tree-kept, dead-all}
 use Rattle.hc_tree.proofs.Fresh.{IsNewMap, no-links, self}
@@ -94,7 +94,6 @@ pub record IsFilledChild (s : Shape) (old new : Trail) (m c n f first : ℕ) (p 
   pub last : IsEntry new c n key f
   pub proper : IsProperKey key
   pub accessor : key.kind ≡ AccessorProp → d ≡ tagged_field
-  pub narrow : IsNarrow d
   pub unwritten : owner_in old f ≡ None
   pub lacks : LacksName old m n key.name
 
@@ -137,12 +136,8 @@ module _ (s : Shape) (old new : Trail) (m c n f first : ℕ) (p : Option ℕ) (k
       no-gate : (k : GateWord) (o : Option GateWord) → o ≡ None → o ≡ Some k → ⊥
       no-gate k o a b = cc
 
-  narrow : AreNarrow new
-  unfolding rest_of
-  narrow = narrow-same (begun old m c f p d) new (λ x. ap (λ (r : Rest). r.detail) (rest x)) (narrow-field old f c d h.tree.narrow h.narrow)
-
   pub filled-tree : IsTree new
-  filled-tree = tree-kept old new child-kept-all (same-lives old new lives) links gates roots arrays narrow h.tree
+  filled-tree = tree-kept old new child-kept-all (same-lives old new lives) links gates roots arrays h.tree
 
   abbrev g : GateWord
   g = gate_with n false
@@ -290,9 +285,9 @@ pub filled-child : (v v4 v5 : View) (m c n f : ℕ) (p : Option ℕ) (key : Key)
     → Adds (FillsArray c v4.used.entries) v4.trail v5.trail → HasEntriesOf v5.trail c m (count_of v4.trail m) → IsEntry v5.trail c (count_of v4.trail m) key f
     → HasOwnArray v5.trail c (count_of v4.trail m + 1) v4.used.entries → AreFree v5.trail (v4.used.entries + (count_of v4.trail m + 1))
     → IsTree v.trail → IsNewMap v.trail c → gate_in v.trail m ≡ Some (gate_with n false) → gate_in v4.trail m ≡ Some (gate_with n false) → prototype_in v.trail m ≡ Some p → m < c → (bits_in v.trail m).deprecated ≡ false
-    → All (IsDeadFor v.trail (Some key)) (links_in v.trail m) → IsProperKey key → (key.kind ≡ AccessorProp → d ≡ tagged_field) → IsNarrow d → owner_in v.trail f ≡ None → LacksName v.trail m n key.name
+    → All (IsDeadFor v.trail (Some key)) (links_in v.trail m) → IsProperKey key → (key.kind ≡ AccessorProp → d ≡ tagged_field) → owner_in v.trail f ≡ None → LacksName v.trail m n key.name
     → IsFilledChild v.shape v.trail v5.trail m c n f v4.used.entries p key d
-filled-child v v4 v5 m c n f p key d e counts h h5 shape writes entries last own spare tree fresh gate gate4 proto younger live dead proper accessor narrow unwritten lacks =
+filled-child v v4 v5 m c n f p key d e counts h h5 shape writes entries last own spare tree fresh gate gate4 proto younger live dead proper accessor unwritten lacks =
     let count : count_of v4.trail m ≡ n = ap entries_in gate4 in
     record {
       lawful = h.lawful;
@@ -309,7 +304,6 @@ filled-child v v4 v5 m c n f p key d e counts h h5 shape writes entries last own
       last = subst (λ (x : ℕ). IsEntry v5.trail c x key f) count last;
       proper = proper;
       accessor = accessor;
-      narrow = narrow;
       unwritten = unwritten;
       lacks = lacks;
       arrays = subst (λ (x : ℕ). AreArraysThere x v.trail) (sym counts) h.arrays;

@@ -35,7 +35,7 @@ closed-tree law s t p c lawful tree =
     let new : Trail = with_closed t p c in
     let l0 : Lawful s t = before s t (Parent c None) (before s (Parent c None ∷ t) (Prototype c p) lawful) in
     let goes : GoesOn s t new = record { more = Prototype c p ∷ Parent c None ∷ []; is = refl; lawful = lawful } in
-    tree-kept t new (law s t new l0 goes) (same-lives t new (λ x. refl)) (λ x. refl) (λ x. refl) (λ o. refl) (λ m g e a. array-kept t new m g.entries refl refl (λ x. refl) (λ x. refl) a) tree.narrow tree
+    tree-kept t new (law s t new l0 goes) (same-lives t new (λ x. refl)) (λ x. refl) (λ x. refl) (λ o. refl) (λ m g e a. array-kept t new m g.entries refl refl (λ x. refl) (λ x. refl) a) tree
 
 -- the gate of a map that has its entries
 pub private-gate : (s : Shape) (t : Trail) (c n : ℕ) → IsClosed t c → n ≤ MAX_FAST → HaveEntries t (base_in t c) n → LawfulGate s t c (gate_with n true)

@@ -260,7 +260,7 @@ module _ (maps : MapsAreKept) (old now : View) (m : ℕ) (g : GateWord) (gate : 
       let whole : IsHeap (with_write now (Bits m dead_bits)) = subst IsHeap is heap in
       let kept = maps now.shape now.trail (Bits m dead_bits ∷ now.trail) it.heap.lawful (goes-by now.shape now.trail (Bits m dead_bits) whole.lawful) in
       let tree : IsTree (Bits m dead_bits ∷ now.trail) = tree-kept now.trail (Bits m dead_bits ∷ now.trail) kept lives (λ x. refl) (λ x. refl) (λ o. refl)
-      (λ n k e a. array-kept now.trail (Bits m dead_bits ∷ now.trail) n k.entries refl refl (λ x. refl) (λ x. refl) a) it.tree.narrow it.tree in
+      (λ n k e a. array-kept now.trail (Bits m dead_bits ∷ now.trail) n k.entries refl refl (λ x. refl) (λ x. refl) a) it.tree in
       subst (λ (x : View). IsDeprecated old x m) (sym is) (record {
         view = ap (λ (v : View). record v { trail = Bits m dead_bits ∷ now.trail }) it.view;
         writes = adds-on it.writes (adds-one now.trail (Bits m dead_bits) (record { depth = 0; leads = refl }, refl));

@@ -62,7 +62,7 @@ root-tree law chains s t p r lawful new tree =
     let l2 : Lawful s t2 = before s t2 (Gate r (gate_with 0 false)) lawful in
     let l0 : Lawful s t = before s t (Parent r None) (before s (Parent r None ∷ t) (Prototype r p) l2) in
     let goes : GoesOn s t t2 = record { more = Prototype r p ∷ Parent r None ∷ []; is = refl; lawful = l2 } in
-    let tree2 = tree-kept t t2 (law s t t2 l0 goes) (same-lives t t2 (λ x. refl)) (λ x. refl) (λ x. refl) (λ o. refl) (λ m g e a. array-kept t t2 m g.entries refl refl (λ x. refl) (λ x. refl) a) tree.narrow tree in
+    let tree2 = tree-kept t t2 (law s t t2 l0 goes) (same-lives t t2 (λ x. refl)) (λ x. refl) (λ x. refl) (λ o. refl) (λ m g e a. array-kept t t2 m g.entries refl refl (λ x. refl) (λ x. refl) a) tree in
     let none : IsPlaced t2 r 0 = record { own = λ i j f lt. absurd (omega arith); others = λ x g i j f is lt. absurd (omega arith) } in
     let ready : IsReady t2 r 0 = record {
       unwritten = new.gate;

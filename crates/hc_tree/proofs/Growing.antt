@@ -52,7 +52,6 @@ open-tree t c g kept here placed h =
           (live-kept t new kept lives m k (links_in t m) sound.links sound.live)
           (array-kept t new m k.entries refl refl (λ x. refl) (λ x. refl) sound.array));
       roots = λ o r is. root-kept t new kept lives (Some o) r (h.roots o r is);
-      narrow = h.narrow;
       places = places-opened t c g h.places placed;
     }
 
@@ -84,7 +83,6 @@ named-root t o r mark kept root h =
           (links-kept t new kept lives m k (links_in t m) e sound.links)
           (live-kept t new kept lives m k (links_in t m) sound.links sound.live)
           (array-kept t new m k.entries refl refl (λ x. refl) (λ x. refl) sound.array);
-      narrow = h.narrow;
       places = h.places;
       roots = λ p q is. root-case t o r mark p q (eqb o p) refl is (root-kept t new kept lives (Some o) r root) (λ was. root-kept t new kept lives (Some p) q (h.roots p q was));
     }
@@ -199,7 +197,6 @@ module _ (t : Trail) (m c n l f : ℕ) (key : Key) where
       ))
       (array-kept t new m n refl refl (λ x. refl) (λ x. refl) sound.array) in
       record {
-        narrow = tree.narrow;
         places = places-opened t c (gate_with (n + 1) false) tree.places h.ready.placed;
         maps = λ x k e. gate-case (IsSoundMap new) (gate_in t x) c x (gate_with (n + 1) false) k (eqb c x) refl e (child-sound h opened apart)
             (λ _ was. other-case x k was (tree.maps x k was) parent kept);

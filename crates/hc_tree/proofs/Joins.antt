@@ -1,4 +1,4 @@
--- Joins of details that aren't wide, and trails in which details alone rise.
+-- Joins of details, and trails in which details alone rise.
 use Rattle.std.proofs.Common.{◌≡◌, ◌≢◌, ℕ, ◌+◌, Bool, true, false, cond, Option, Some, None, List, [], ◌∷◌, refl, sym, ap, ◌∙◌, subst, arith, IsSome}
 use Rattle.std.specs.Prelude.{IsTrue, IsSomeAnd}
 use Rattle.hc_layout.specs.declared.shape.Shape.{Shape}
@@ -22,31 +22,15 @@ use Rattle.hc_descs.specs.Copies.{HasArray}
 use Rattle.hc_fields.specs.Fields.{raised, raised_from}
 use Rattle.hc_links.specs.Chains.{is_key, links_in, newest_of}
 use Rattle.hc_tree.specs.Kept.{MapsAreKept, MapsStay}
-use Rattle.hc_tree.specs.Tree.{gate_with, AreNarrow, IsChildFor, IsNarrow, IsTree}
-use Rattle.hc_tree.specs.Details.{ChildGets, NoMap, Reshapes, WritesDetails, detail_of, detail_at, joined_with}
+use Rattle.hc_tree.specs.Tree.{gate_with, IsChildFor, IsNarrow, IsTree}
+use Rattle.hc_tree.specs.Details.{ChildGets, Reshapes, WritesDetails, detail_of, detail_at, joined_with, joins_in_place}
 use Rattle.hc_tree.specs.Growth.{EndsWith, MayGrow, live_of, live_child}
 use Rattle.hc_links.specs.Laws.{SameKeysAreEqual}
-use Rattle.hc_tree.proofs.Arrays.{narrow-write}
 use Rattle.hc_tree.proofs.Begun.{grow-gate}
 use Rattle.hc_tree.proofs.Opened.{live-child}
 use Rattle.hc_tree.proofs.Keeping.{same-lives, SameLives, array-kept, child-kept, tree-kept}
 
 -- Joins
-
-pub narrow-join : (a b : Rep) → a ≢ Wide → b ≢ Wide → join_of a b ≢ Wide
-narrow-join Wide b h k = absurd (h refl)
-narrow-join Smi Wide h k = absurd (k refl)
-narrow-join HeapObject Wide h k = absurd (k refl)
-narrow-join Tagged Wide h k = absurd (k refl)
-narrow-join Smi Smi h k = h
-narrow-join Smi HeapObject h k = λ is. cc
-narrow-join Smi Tagged h k = k
-narrow-join HeapObject Smi h k = λ is. cc
-narrow-join HeapObject HeapObject h k = h
-narrow-join HeapObject Tagged h k = k
-narrow-join Tagged Smi h k = h
-narrow-join Tagged HeapObject h k = h
-narrow-join Tagged Tagged h k = h
 
 pub narrow-place : (a b : Rep) → a ≢ Wide → b ≢ Wide → IsTrue (in_place_of a (join_of a b))
 narrow-place Wide b h k = absurd (h refl)
@@ -62,6 +46,12 @@ narrow-place HeapObject Tagged h k = refl
 narrow-place Tagged Smi h k = refl
 narrow-place Tagged HeapObject h k = refl
 narrow-place Tagged Tagged h k = refl
+
+-- what isn't wide joins in place
+pub narrow-joins : (o p : Option Detail) → IsSome o → IsSome p → ((e : Detail) → o ≡ Some e → IsNarrow e) → ((d : Detail) → p ≡ Some d → IsNarrow d) → joins_in_place o p ≡ true
+narrow-joins (Some e) (Some d) there too one other = narrow-place e.rep d.rep (one e refl) (other d refl)
+narrow-joins None p there too one other = let n : ⊥ = cc in absurd n
+narrow-joins (Some e) None there too one other = let n : ⊥ = cc in absurd n
 
 -- A detail that is raised
 
@@ -161,12 +151,8 @@ module _ (a b : Trail) (h : Adds WritesDetails a b) where
       (λ e. ap (λ (r : Others). r.key) (others-same e)) (λ e. ap (λ (r : Others). r.reference) (others-same e))
 
   -- the tree stays sound
-  pub details-tree : MapsAreKept → (s : Shape) → Lawful s a → Lawful s b → AreNarrow b → IsTree a → IsTree b
-  details-tree law s before after narrow tree = tree-kept a b (law s a b before (goes-on-of s h after)) (same-lives a b lives-same) links-same gates-same roots-same arrays-same narrow tree
-
--- a raised detail isn't wide
-pub raised-narrow : (t : Trail) (f : ℕ) (d : Detail) → AreNarrow t → IsNarrow d → AreNarrow (raised t f d)
-raised-narrow t f d narrow here = raised-case AreNarrow t f d narrow (λ e is. narrow-write t f (joined_detail e d) narrow (narrow-join e.rep d.rep (narrow f e is) here))
+  pub details-tree : MapsAreKept → (s : Shape) → Lawful s a → Lawful s b → IsTree a → IsTree b
+  details-tree law s before after tree = tree-kept a b (law s a b before (goes-on-of s h after)) (same-lives a b lives-same) links-same gates-same roots-same arrays-same tree
 
 -- The entry whose field is raised
 
@@ -199,9 +185,11 @@ ends-of t c n key d last owned admits = record { last = last; field = by (field_
     by None own is = absurd own
 
 -- the write is the one that the child asks
-pub raised-gets : (t : Trail) (used : Shape) (l : Option ℕ) (c n f : ℕ) (d : Detail) → l ≡ Some c → field_at t c n ≡ Some f → Adds (Reshapes used NoMap (ChildGets t l n d used.fields)) t (raised t f d)
-raised-gets t used l c n f d is at = raised-case (Adds (Reshapes used NoMap (ChildGets t l n d used.fields)) t) t f d (adds-none t)
-    (λ e was. adds-one t (FieldDetail f (joined_detail e d)) (subst (λ (o : Option ℕ). ChildGets t o n d used.fields f (joined_detail e d)) (sym is) (at, ap (λ (o : Option Detail). joined_with o d) (sym was))))
+pub raised-gets : (t : Trail) (used : Shape) (Dies : ℕ → Type 0) (fit : Option ℕ) (c n f : ℕ) (d wanted : Detail) → fit ≡ Some c → field_at t c n ≡ Some f → wanted ≡ joined_with (detail_at t c n) d → Adds (Reshapes used Dies (ChildGets t fit n wanted used.fields)) t (raised t f d)
+raised-gets t used Dies fit c n f d wanted is at joins = raised-case (Adds (Reshapes used Dies (ChildGets t fit n wanted used.fields)) t) t f d (adds-none t)
+    (λ e was.
+    let same : joined_detail e d ≡ wanted = sym (joins ∙ ap (λ (o : Option Detail). joined_with o d) (ap (detail_of t) at ∙ was)) in
+    adds-one t (FieldDetail f (joined_detail e d)) (subst (λ (o : Option ℕ). ChildGets t o n wanted used.fields f (joined_detail e d)) (sym is) (at, same)))
 
 -- A child that was found, and whose last field was raised
 
@@ -237,25 +225,24 @@ module _ (law : MapsAreKept) (v w : View) (m c n : ℕ) (key : Key) (d : Detail)
   raised-ends is = ends-of w.trail c n key (joined_with (detail_at v.trail c n) d) then.last then.field is
 
   -- what its last field admits then
-  pub raised-got : detail_at w.trail c n ≡ Some (joined_with (detail_at v.trail c n) d) → (first f : ℕ) (e : Detail) → ChildGets v.trail (Some c) n d first f e → detail_in w.trail f ≡ Some e
-  raised-got is first f e got =
+  pub raised-got : (wanted : Detail) → detail_at w.trail c n ≡ Some wanted → (first f : ℕ) (e : Detail) → ChildGets v.trail (Some c) n wanted first f e → detail_in w.trail f ≡ Some e
+  raised-got wanted is first f e got =
       let here : field_at w.trail c n ≡ Some f = (kept.entry c n (gate_with (n + 1) false) child.gate (omega arith)).field ∙ got.0 in
-      sym (ap (detail_of w.trail) here) ∙ (is ∙ (ap (λ (o : Option Detail). Some (joined_with o d)) (ap (detail_of v.trail) got.0) ∙ ap (λ (x : Detail). Some x) (sym got.1)))
+      sym (ap (detail_of w.trail) here) ∙ (is ∙ ap (λ (x : Detail). Some x) (sym got.1))
 
 -- The raise itself
 
-pub place-of : (t : Trail) (f : ℕ) (d : Detail) → AreNarrow t → IsField t f → IsNarrow d → IsSomeAnd (detail_in t f) (λ e. IsTrue (in_place_of e.rep (join_of e.rep d.rep)))
-place-of t f d narrow made here = by (detail_in t f) refl made.detail
+pub place-of : (t : Trail) (m k f : ℕ) (d : Detail) → field_at t m k ≡ Some f → IsTrue (joins_in_place (detail_at t m k) (Some d)) → IsSomeAnd (detail_in t f) (λ e. IsTrue (in_place_of e.rep (join_of e.rep d.rep)))
+place-of t m k f d at fits = by (detail_in t f) (subst (λ (o : Option ℕ). IsTrue (joins_in_place (detail_of t o) (Some d))) at fits)
   where
-    by : (o : Option Detail) → detail_in t f ≡ o → IsSome o → IsSomeAnd o (λ e. IsTrue (in_place_of e.rep (join_of e.rep d.rep)))
-    by (Some e) is some = narrow-place e.rep d.rep (narrow f e is) here
-    by None is some = let n : ⊥ = cc in absurd n
+    by : (o : Option Detail) → IsTrue (joins_in_place o (Some d)) → IsSomeAnd o (λ e. IsTrue (in_place_of e.rep (join_of e.rep d.rep)))
+    by (Some e) is = is
+    by None is = let n : ⊥ = cc in absurd n
 
-pub raised-tree : MapsAreKept → (v w : View) (f : ℕ) (d : Detail) → IsHeap v → IsHeap w → w ≡ record v { trail = raised v.trail f d } → IsNarrow d → IsTree v.trail → IsTree w.trail
-raised-tree law v w f d before after is here tree =
+pub raised-tree : MapsAreKept → (v w : View) (f : ℕ) (d : Detail) → IsHeap v → IsHeap w → w ≡ record v { trail = raised v.trail f d } → IsTree v.trail → IsTree w.trail
+raised-tree law v w f d before after is tree =
     let writes : Adds WritesDetails v.trail w.trail = subst (λ (x : View). Adds WritesDetails v.trail x.trail) (sym is) (raised-writes v.trail f d) in
-    let narrow : AreNarrow w.trail = subst (λ (x : View). AreNarrow x.trail) (sym is) (raised-narrow v.trail f d tree.narrow here) in
-    details-tree v.trail w.trail writes law v.shape before.lawful (subst (λ (s : Shape). Lawful s w.trail) (ap (λ (x : View). x.shape) is) after.lawful) narrow tree
+    details-tree v.trail w.trail writes law v.shape before.lawful (subst (λ (s : Shape). Lawful s w.trail) (ap (λ (x : View). x.shape) is) after.lawful) tree
 
 -- the live child that was read, and what it is
 pub record IsFound (t : Trail) (m c : ℕ) (key : Key) : Type 0 where

@@ -23,7 +23,7 @@ use Rattle.hc_descs.specs.Entries.{field_at}
 use Rattle.hc_descs.specs.Copies.{HasArray}
 use Rattle.hc_links.specs.Chains.{links_in}
 use Rattle.hc_tree.specs.Kept.{MapsStay, MapsAreKept}
-use Rattle.hc_tree.specs.Tree.{gate_with, tagged_field, AreNarrow, IsRoot, IsChildFor, IsSoundLink, IsDeadFor, HaveOneLive, IsSoundMap, IsTree}
+use Rattle.hc_tree.specs.Tree.{gate_with, tagged_field, IsRoot, IsChildFor, IsSoundLink, IsDeadFor, HaveOneLive, IsSoundMap, IsTree}
 
 -- the laws of the heap that are used here
 pub record HeapLaws : Type 0 where
@@ -207,8 +207,8 @@ module _ (old new : Trail) (kept : MapsStay old new) (lives : Lives old new) whe
 
   -- the tree stays sound while no map is opened and no link is put in
   pub tree-kept : ((x : ℕ) → links_in new x ≡ links_in old x) → ((x : ℕ) → gate_in new x ≡ gate_in old x) → ((o : ℕ) → (root_in new o).map ≡ (root_in old o).map)
-      → ((m : ℕ) (g : GateWord) → gate_in old m ≡ Some g → HasArray old m g.entries → HasArray new m g.entries) → AreNarrow new → IsTree old → IsTree new
-  tree-kept links gates roots arrays narrow h = record {
+      → ((m : ℕ) (g : GateWord) → gate_in old m ≡ Some g → HasArray old m g.entries → HasArray new m g.entries) → IsTree old → IsTree new
+  tree-kept links gates roots arrays h = record {
     maps = λ m g e.
         let e' = sym (gates m) ∙ e in
         let sound = h.maps m g e' in
@@ -218,7 +218,6 @@ module _ (old new : Trail) (kept : MapsStay old new) (lives : Lives old new) whe
         (subst (λ (ls : List ℕ). HaveOneLive new ls) (sym (links m)) (live-kept m g (links_in old m) sound.links sound.live))
         (arrays m g e' sound.array);
     roots = λ o r is. root-kept (Some o) r (h.roots o r (sym (roots o) ∙ is));
-    narrow = narrow;
     places = λ m n g k i j f em en li lj fi fj.
         let em' = sym (gates m) ∙ em in
         let en' = sym (gates n) ∙ en in
@@ -246,7 +245,7 @@ lives-case b n x old false e same = refl
 pub bits-tree : (t : Trail) (m : ℕ) (b : MapBits) → MapsStay t (Bits m b ∷ t) → b.deprecated ≡ (bits_in t m).deprecated → IsTree t → IsTree (Bits m b ∷ t)
 bits-tree t m b kept same h =
     tree-kept t (Bits m b ∷ t) kept (same-lives t (Bits m b ∷ t) (λ x. lives-case b m x (bits_in t x) (eqb m x) refl (λ e. subst (λ (y : ℕ). b.deprecated ≡ (bits_in t y).deprecated) (eqb-true m x e) same))) (λ x. refl) (λ x. refl) (λ o. refl)
-    (λ n g e a. array-kept t (Bits m b ∷ t) n g.entries refl refl (λ x. refl) (λ x. refl) a) h.narrow h
+    (λ n g e a. array-kept t (Bits m b ∷ t) n g.entries refl refl (λ x. refl) (λ x. refl) a) h
 
 pub bits-view : MapsAreKept → (old new : View) (m : ℕ) (b : MapBits) → new ≡ with_write old (Bits m b) → IsHeap old → IsHeap new → b.deprecated ≡ (bits_in old.trail m).deprecated → IsTree old.trail → IsTree new.trail
 bits-view law old new m b e before after same h =

@@ -20,3 +20,4 @@ pub mod Rooted
 pub mod Owners
 pub mod Deaths
 pub mod Spared
+pub mod Instead

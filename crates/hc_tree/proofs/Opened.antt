@@ -44,7 +44,7 @@ pub record MayGetChild (t : Trail) (m n : ℕ) (key : Key) : Type 0 where
   pub lacks : LacksName t m n key.name
   pub dead : All (IsDeadFor t (Some key)) (links_in t m)
 
-same-life : (t : Trail) (m x : ℕ) → (bits_in (Bits m (record { unstable = true; deprecated = (bits_in t m).deprecated }) ∷ t) x).deprecated ≡ (bits_in t x).deprecated
+pub same-life : (t : Trail) (m x : ℕ) → (bits_in (Bits m (record { unstable = true; deprecated = (bits_in t m).deprecated }) ∷ t) x).deprecated ≡ (bits_in t x).deprecated
 same-life t m x = lives-case (record { unstable = true; deprecated = (bits_in t m).deprecated }) m x (bits_in t x) (eqb m x) refl (λ e. ap (λ (y : ℕ). (bits_in t y).deprecated) (eqb-true m x e))
 
 dead-after : (t : Trail) (m : ℕ) (o : Option ℕ) → IfSome o (λ c. IsTrue (bits_in t c).deprecated) → IfSome o (λ c. IsTrue (bits_in (Bits m (record { unstable = true; deprecated = (bits_in t m).deprecated }) ∷ t) c).deprecated)

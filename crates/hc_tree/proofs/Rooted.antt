@@ -152,7 +152,7 @@ module _ (v w : View) (null then_null proto : Option ℕ) (r : ℕ) (it : IsRoot
       by None None = refl
       by None (Some q) = refl
 
-  detail-same : (f : ℕ) → detail_in w.trail f ≡ detail_in v.trail f
+  pub detail-same : (f : ℕ) → detail_in w.trail f ≡ detail_in v.trail f
   detail-same f = same-by (λ (t : Trail). detail_in t f) (by (root_of v.trail proto null) proto)
     where
       by : (x p : Option ℕ) → detail_in (with_root_for x v.trail p r) f ≡ detail_in v.trail f

@@ -14,12 +14,12 @@ use Rattle.hc_tree.proofs.Owners.{led-to}
 use Rattle.hc_tree.proofs.Opening.{cond-other}
 
 -- a map above an open one is open, and no younger
-record IsAbove (t : Trail) (m a : ℕ) : Type 0 where
-  gate : GateWord
-  is_open : gate_in t a ≡ Some gate
-  older : a ≤ m
-  prototype : prototype_in t a ≡ prototype_in t m
-  falls : IsTrue (bits_in t a).deprecated → IsTrue (bits_in t m).deprecated
+pub record IsAbove (t : Trail) (m a : ℕ) : Type 0 where
+  pub gate : GateWord
+  pub is_open : gate_in t a ≡ Some gate
+  pub older : a ≤ m
+  pub prototype : prototype_in t a ≡ prototype_in t m
+  pub falls : IsTrue (bits_in t a).deprecated → IsTrue (bits_in t m).deprecated
 
 parent-is : (t : Trail) (b a : ℕ) → parent_of (parent_in t b) ≡ Some a → parent_in t b ≡ Some (Some a)
 parent-is t b a is = by (parent_in t b) is
@@ -28,7 +28,7 @@ parent-is t b a is = by (parent_in t b) is
     by (Some p) e = ap (λ (x : Option ℕ). Some x) e
     by None e = let n : ⊥ = cc in absurd n
 
-rises-to : (t : Trail) (m a depth : ℕ) (g : GateWord) → IsTree t → gate_in t m ≡ Some g → ancestor t depth m ≡ Some a → IsAbove t m a
+pub rises-to : (t : Trail) (m a depth : ℕ) (g : GateWord) → IsTree t → gate_in t m ≡ Some g → ancestor t depth m ≡ Some a → IsAbove t m a
 rises-to t m a zero g tree is leads =
     let same : m ≡ a = cc in
     subst (λ (x : ℕ). IsAbove t m x) same (record { gate = g; is_open = is; older = omega arith; prototype = refl; falls = λ h. h })

@@ -306,7 +306,7 @@ module _ (wanted : ℕ → Option Detail) (maps : MapsAreKept) (a b : View) (bas
   -- what can be wanted can be later
   pub may-later : (w : Wanted) → gate_in a.trail m ≡ Some (gate_with n false) → k < n → MayBeWanted a.shape a.trail m count w → MayBeWanted b.shape b.trail m count w
   may-later Same is lt h = tt
-  may-later (With d) is lt h = record { form = h.form; there = there-by d.class h.there; narrow = h.narrow }
+  may-later (With d) is lt h = record { form = h.form; there = there-by d.class h.there }
     where
       there-by : (c : Class) → IsClassThere a.shape a.trail c → IsClassThere b.shape b.trail c
       there-by (Of x) y = (subst (λ (s : Shape). x < s.maps) (sym it.shape) y.0, let g = some-of (gate_in a.trail x) y.1 in subst (λ (o : Option GateWord). IsSome o) (sym (built-later.written.gate x g.0 g.1)) refl)

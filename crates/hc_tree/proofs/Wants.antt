@@ -20,15 +20,13 @@ use Rattle.hc_descs.specs.Entries.{key_at}
 use Rattle.hc_tree.specs.Tree.{IsTree, tagged_field}
 use Rattle.hc_tree.specs.Details.{detail_at}
 use Rattle.hc_tree.specs.Walking.{IsDetail, MayAdmit}
-use Rattle.hc_tree.proofs.Arrays.{narrow-at}
-use Rattle.hc_tree.proofs.Joins.{narrow-join}
 use Rattle.hc_tree.proofs.Walked.{next-accessor}
 
 -- what a map's field admits can be admitted by a new one for its entry
 pub own-admits : (v : View) (m k : ℕ) (g : GateWord) (d : Detail) → IsTree v.trail → gate_in v.trail m ≡ Some g → k < g.entries → detail_at v.trail m k ≡ Some d → IsClassInRange d.class → IsClassThere v.shape v.trail d.class → MayAdmit v.shape v.trail m k d
 own-admits v m k g d tree gate lt is form there = record {
   accessor = λ key here kind. next-accessor v m k g key d tree gate lt here is kind;
-  is = record { form = form; there = there; narrow = narrow-at v.trail m k d tree.narrow is };
+  is = record { form = form; there = there };
 }
 
 class-by : (P : Class → Type 0) (m : ℕ) (b : Bool) → P (Of m) → P Any → P (cond b (Of m) Any)
@@ -36,7 +34,7 @@ class-by P m true p any = p
 class-by P m false p any = any
 
 -- what holds of two classes, and of any, holds of their join
-class-join : (P : Class → Type 0) (a b : Class) → P a → P Any → P (joined_class a b)
+pub class-join : (P : Class → Type 0) (a b : Class) → P a → P Any → P (joined_class a b)
 class-join P (Of m) (Of n) p any = class-by P m (eqb m n) p any
 class-join P (Of m) Any p any = any
 class-join P Any b p any = any
@@ -45,7 +43,6 @@ join-is : (s : Shape) (t : Trail) (d e : Detail) → IsDetail s t e → IsDetail
 join-is s t d e other own = record {
   form = class-join IsClassInRange e.class d.class other.form tt;
   there = class-join (IsClassThere s t) e.class d.class other.there tt;
-  narrow = narrow-join e.rep d.rep other.narrow own.narrow;
 }
 
 tagged-rep : (r : Rep) → join_of Tagged r ≡ Tagged

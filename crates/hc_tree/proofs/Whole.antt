@@ -20,7 +20,7 @@ use Rattle.hc_heap.specs.Frames.{adds-one, adds-on, adds-wider, same-after, goes
 use Rattle.hc_descs.specs.Entries.{key_at, field_at, count_of, entries_in, LacksName}
 use Rattle.hc_links.specs.Chains.{links_in}
 use Rattle.hc_tree.specs.Kept.{MapsAreKept, MapsStay}
-use Rattle.hc_tree.specs.Tree.{gate_with, tagged_field, AreNarrow, IsNarrow, HaveTaggedAccessors, IsProperKey, IsTree}
+use Rattle.hc_tree.specs.Tree.{gate_with, tagged_field, HaveTaggedAccessors, IsProperKey, IsTree}
 use Rattle.hc_tree.specs.Growth.{EndsWith, MakesMap}
 use Rattle.hc_tree.specs.Copying.{More, MayBeLast, detail_of, copied_count, FillsCopy, IsClosed, IsWhole, IsLikeField, HasCopied, HasMore, IsPrivateCopy, with_closed}
 use Rattle.hc_tree.proofs.Arrays.{filled-array}
@@ -54,12 +54,12 @@ pub maps-same : (c e f : ℕ) (a b : Trail) → Adds (FillsCopy c e f) a b → m
 maps-same c e f a b h = same-after maps_in (maps-step c e f) h
 
 -- the tree stays sound while a new map is filled
-pub fill-tree : MapsAreKept → (s : Shape) (a b : Trail) (c e f : ℕ) → Lawful s a → Lawful s b → Adds (FillsCopy c e f) a b → AreArraysThere e a → IsClosed a c → AreNarrow b → IsTree a → IsTree b
-fill-tree law s a b c e f before after h there closed narrow tree =
+pub fill-tree : MapsAreKept → (s : Shape) (a b : Trail) (c e f : ℕ) → Lawful s a → Lawful s b → Adds (FillsCopy c e f) a b → AreArraysThere e a → IsClosed a c → IsTree a → IsTree b
+fill-tree law s a b c e f before after h there closed tree =
     let same = maps-same c e f a b h in
     tree-kept a b (law s a b before (goes-on-of s h after)) (same-lives a b (λ x. ap (λ (r : MapReadings). (r.bits x).deprecated) same)) (λ x. ap (λ (r : MapReadings). r.links x) same)
     (λ x. ap (λ (r : MapReadings). r.gates x) same) (λ o. ap (λ (r : MapReadings). (r.roots o).map) same)
-    (λ m g is has. filled-array c e f m (λ e'. no-gate g (gate_in a c) closed.gate (ap (gate_in a) e' ∙ is)) a b g.entries h there has) narrow tree
+    (λ m g is has. filled-array c e f m (λ e'. no-gate g (gate_in a c) closed.gate (ap (gate_in a) e' ∙ is)) a b g.entries h there has) tree
   where
     no-gate : (g : GateWord) (o : Option GateWord) → o ≡ None → o ≡ Some g → ⊥
     no-gate g o x y = cc
@@ -200,27 +200,22 @@ more-whole s (Some e) a b c m n h keys count may last =
 -- a last entry may still come after those of a map while a new map is closed
 pub may-still : (s : Shape) (more : More) (t : Trail) (m c : ℕ) (p : Option ℕ) → IfSome more (λ e. MayBeLast s t m e.0 e.1) → IfSome more (λ e. MayBeLast s (with_closed t p c) m e.0 e.1)
 may-still s None t m c p h = tt
-may-still s (Some e) t m c p h = record { form = h.form; proper = h.proper; lacks = h.lacks; accessor = h.accessor; class = h.class; there = class-still e.1.class h.there; narrow = h.narrow }
+may-still s (Some e) t m c p h = record { form = h.form; proper = h.proper; lacks = h.lacks; accessor = h.accessor; class = h.class; there = class-still e.1.class h.there }
   where
     class-still : (k : Class) → IsClassThere s t k → IsClassThere s (with_closed t p c) k
     class-still (Of x) h = h
     class-still Any h = h
 
--- a last entry isn't wide
-pub may-narrow : (s : Shape) (more : More) (t : Trail) (m : ℕ) → IfSome more (λ e. MayBeLast s t m e.0 e.1) → IfSome more (λ e. IsNarrow e.1)
-may-narrow s None t m h = tt
-may-narrow s (Some e) t m h = h.narrow
-
 -- a filled map may be opened
 pub filled-whole : MapsAreKept → (s : Shape) (fresh : Bool) (more : More) (a b : Trail) (c e f m n first : ℕ) → Lawful s a → Lawful s b → Adds (FillsCopy c e f) a b → IsSomeAnd (gate_in a m) (λ g. g.entries ≡ n)
-    → AreArraysThere e a → IsClosed a c → AreNarrow b → IsTree a → IfSome more (λ x. MayBeLast s a m x.0 x.1) → HasCopied fresh b c m n first → HasMore more b c n → IsWhole b c (copied_count more n)
-filled-whole law s fresh more a b c e f m n first before after h some there closed narrow tree may copied last =
+    → AreArraysThere e a → IsClosed a c → IsTree a → IfSome more (λ x. MayBeLast s a m x.0 x.1) → HasCopied fresh b c m n first → HasMore more b c n → IsWhole b c (copied_count more n)
+filled-whole law s fresh more a b c e f m n first before after h some there closed tree may copied last =
     let w = some-with (λ (g : GateWord). g.entries ≡ n) (gate_in a m) some in
     let is = w.1.0 in
     let same : w.0.entries ≡ n = w.1.1 in
     let kept : MapsStay a b = law s a b before (goes-on-of s h after) in
     let later : IsSomeAnd (gate_in b m) (λ g. g.entries ≡ n) = subst (λ (o : Option GateWord). IsSomeAnd o (λ g. g.entries ≡ n)) (sym (kept.written.gate m w.0 is)) same in
-    let whole = copied-whole fresh b c m n first (open-whole law s b m n after later (fill-tree law s a b c e f before after h there closed narrow tree)) copied in
+    let whole = copied-whole fresh b c m n first (open-whole law s b m n after later (fill-tree law s a b c e f before after h there closed tree)) copied in
     let count : count_of a m ≡ n = ap entries_in is ∙ same in
     more-whole s more a b c m n whole (λ k lt. copied-keys fresh b c m n first copied k lt ∙ (kept.entry m k w.0 is (omega arith)).key) count may last
 

@@ -15,7 +15,7 @@ pub use Rattle.hc_fields.specs.Fields.{with_field}
 pub use Rattle.hc_tree.specs.Details.{detail_of, detail_at}
 use Rattle.hc_descs.specs.Copies.{HasEntriesOf, HasKeysOf}
 use Rattle.hc_links.specs.Chains.{links_in}
-use Rattle.hc_tree.specs.Tree.{gate_with, tagged_field, IsNarrow, HaveDistinctNames, HaveProperKeys, HaveTaggedAccessors, IsProperKey}
+use Rattle.hc_tree.specs.Tree.{gate_with, tagged_field, HaveDistinctNames, HaveProperKeys, HaveTaggedAccessors, IsProperKey}
 use Rattle.hc_tree.specs.Needs.{array_of}
 use Rattle.hc_tree.specs.Growth.{EndsWith}
 use Rattle.hc_tree.specs.Walking.{GetsSame}
@@ -51,7 +51,6 @@ pub record MayBeLast (s : Shape) (t : Trail) (m : ℕ) (key : Key) (detail : Det
   pub accessor : key.kind ≡ AccessorProp → detail ≡ tagged_field
   pub class : IsClassInRange detail.class
   pub there : IsClassThere s t detail.class
-  pub narrow : IsNarrow detail
 
 -- how many entries a private copy of a map with n entries has
 abbrev pub copied_count : More → ℕ → ℕ

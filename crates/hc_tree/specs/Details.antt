@@ -1,7 +1,7 @@
 -- What the fields of maps admit, and which writes of the tree change that.
-use Rattle.std.specs.Prelude.{◌≡◌, ◌⊎◌, ℕ, ◌≤◌, IsTrue, Option, Some, None}
+use Rattle.std.specs.Prelude.{◌≡◌, ◌⊎◌, ℕ, ◌≤◌, Bool, false, IsTrue, Option, Some, None}
 use Rattle.hc_layout.specs.declared.shape.Shape.{Shape}
-use Rattle.hc_value.specs.Field.{joined_detail}
+use Rattle.hc_value.specs.Field.{in_place_of, join_of, joined_detail}
 use Rattle.hc_value.specs.declared.field.Detail.{Detail}
 use Rattle.hc_heap.specs.Writes.{Write, Trail, Gate, Parent, Prototype, Bits, Base, Array, Head, EntryKey, Reference, Owner, FieldDetail, LinkKey, LinkChild, LinkNext, Root}
 use Rattle.hc_heap.specs.Readings.{bits_in, detail_in, root_in}
@@ -13,8 +13,17 @@ abbrev pub joined_with : Option Detail → Detail → Detail
 joined_with (Some e) d = joined_detail e d
 joined_with None d = d
 
--- what the last field of a key's child admits after it was asked to admit a detail: in the child that was there the join with
--- what it admitted, and in a new one the detail
+-- what a field admits is joined with another detail in place
+abbrev pub joins_in_place : Option Detail → Option Detail → Bool
+joins_in_place (Some e) (Some d) = in_place_of e.rep (join_of e.rep d.rep)
+joins_in_place _ _ = false
+
+-- what the field of a map's j-th entry admits is joined in place with what another map's does
+abbrev pub fits_at : Trail → ℕ → ℕ → ℕ → Bool
+fits_at t end m j = joins_in_place (detail_at t end j) (detail_at t m j)
+
+-- what the last field of a key's child admits after it was asked to admit a detail: the join with what the live child's field
+-- admitted, and where there was none the detail
 abbrev pub child_detail : Trail → Option ℕ → ℕ → Detail → Detail
 child_detail t (Some c) n d = joined_with (detail_at t c n) d
 child_detail t None n d = d
@@ -45,10 +54,10 @@ Reshapes used Dies Gets t _ = ⊥
 abbrev pub NoMap : ℕ → Type 0
 NoMap m = ⊥
 
--- what a field gets where the child of a map with n entries is asked to admit a detail: the last field of the child that was
--- there the join, or else the first new field the detail
+-- the field that gets a detail where a child of a map with n entries is to admit it: the last one of the child that is used, or
+-- else the first new field
 abbrev pub ChildGets : Trail → Option ℕ → ℕ → Detail → ℕ → ℕ → Detail → Type 0
-ChildGets t (Some c) n d first f e = (field_at t c n ≡ Some f) × (e ≡ joined_with (detail_in t f) d)
+ChildGets t (Some c) n d first f e = (field_at t c n ≡ Some f) × (e ≡ d)
 ChildGets t None n d first f e = (f ≡ first) × (e ≡ d)
 
 -- exactly these fields got these details, and all others have what they had

@@ -1,16 +1,18 @@
 -- Maps that are deprecated, each with all maps under it.
-use Rattle.std.specs.Prelude.{◌≡◌, ℕ, suc, ◌+◌, ◌<◌, ◌≤◌, true, false, IsTrue, Some, None}
+use Rattle.std.specs.Prelude.{◌≡◌, ℕ, suc, ◌+◌, ◌<◌, ◌≤◌, true, false, IsTrue, IsSome, Option, Some, None}
 use Rattle.hc_layout.specs.declared.shape.Shape.{Shape}
 use Rattle.hc_layout.specs.declared.words.GateWord.{GateWord}
 use Rattle.hc_layout.specs.declared.words.MapBits.{MapBits}
+use Rattle.hc_value.specs.declared.field.Detail.{Detail}
 use Rattle.hc_value.specs.declared.key.Key.{Key}
 use Rattle.hc_heap.specs.Writes.{Write, Trail, Bits}
 use Rattle.hc_heap.specs.Readings.{gate_in, parent_in, prototype_in, bits_in, owner_in}
 use Rattle.hc_heap.specs.Lawful.{Lawful}
 use Rattle.hc_heap.specs.Kept.{Adds}
 use Rattle.hc_heap.specs.States.{View, IsHeap}
-use Rattle.hc_descs.specs.Entries.{field_at}
+use Rattle.hc_descs.specs.Entries.{count_of, field_at}
 use Rattle.hc_descs.specs.Copies.{HasEntriesOf}
+use Rattle.hc_tree.specs.Details.{detail_at, joins_in_place}
 use Rattle.hc_tree.specs.Tree.{IsChildFor, IsTree, gate_with}
 use Rattle.hc_tree.specs.Growth.{live_child}
 use Rattle.hc_tree.specs.Walking.{ancestor}
@@ -28,6 +30,22 @@ pub record IsUnder (t : Trail) (top c : ℕ) : Type 0 where
 abbrev pub Deprecates : Trail → ℕ → Trail → Write → Type 0
 Deprecates old top t (Bits c b) = IsUnder old top c × (b ≡ dead_bits)
 Deprecates old top t _ = ⊥
+
+-- a map stands under the live child of a map with n entries, or is it, where that child's last field doesn't join with a detail
+-- in place
+pub record IsOutgrown (t : Trail) (live : Option ℕ) (n : ℕ) (d : Detail) (x : ℕ) : Type 0 where
+  pub child : ℕ
+  pub is : live ≡ Some child
+  pub outgrown : joins_in_place (detail_at t child n) (Some d) ≡ false
+  pub under : IsUnder t child x
+
+-- a map stands under the live child of a map for a key, or is it, where its last field doesn't join with a detail in place
+abbrev pub OutgrownFor : Trail → ℕ → Key → Detail → ℕ → Type 0
+OutgrownFor t m key d x = IsOutgrown t (live_child t m key) (count_of t m) d x
+
+-- the maps of a kind that were open are deprecated
+abbrev pub HaveDied : (ℕ → Type 0) → Trail → Trail → Type 0
+HaveDied Dies old new = (x : ℕ) → Dies x → IsSome (gate_in old x) → IsTrue (bits_in new x).deprecated
 
 -- a map that may be deprecated is private, or has a parent: a root stays
 abbrev pub MayDie : Trail → ℕ → GateWord → Type 0
@@ -63,6 +81,10 @@ OwnersStand = (s : Shape) (t : Trail) (m n i : ℕ) → Lawful s t → IsTree t 
 -- a live child for a key is the live child for it
 abbrev pub OneIsLive : Type 0
 OneIsLive = (t : Trail) (m c : ℕ) (g : GateWord) (key : Key) → IsTree t → gate_in t m ≡ Some g → IsChildFor t m g c key → (bits_in t c).deprecated ≡ false → live_child t m key ≡ Some c
+
+-- and the live child for a key is a child for it
+abbrev pub LiveIsChild : Type 0
+LiveIsChild = (t : Trail) (m c : ℕ) (g : GateWord) (key : Key) → IsTree t → gate_in t m ≡ Some g → live_child t m key ≡ Some c → IsChildFor t m g c key
 
 -- after a live child was deprecated there is none for its key
 abbrev pub OwnerIsFreed : Type 0

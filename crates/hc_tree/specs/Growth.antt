@@ -11,10 +11,11 @@ use Rattle.hc_heap.specs.Readings.{gate_in, parent_in, prototype_in, bits_in, ow
 use Rattle.hc_heap.specs.declared.space.Space.{Space}
 use Rattle.hc_heap.specs.States.{HeapState}
 use Rattle.hc_tree.specs.declared.need.Need.{Need}
-use Rattle.hc_descs.specs.Entries.{key_at, field_at}
+use Rattle.hc_descs.specs.Entries.{count_of, key_at, field_at}
 use Rattle.hc_descs.specs.Copies.{HasArray, HasEntriesOf}
 use Rattle.hc_links.specs.Chains.{child_of, links_in}
 use Rattle.hc_tree.specs.Tree.{gate_with, HaveDistinctNames, HaveProperKeys, HaveTaggedAccessors, IsDeadFor}
+use Rattle.hc_tree.specs.Details.{ChildGets, child_detail, detail_at, joins_in_place}
 use Rattle.hc_tree.specs.Needs.{no_need}
 
 -- Unstable maps
@@ -69,6 +70,23 @@ live_of t (Some c) = if (bits_in t c).deprecated then None else Some c
 -- the live child of a map for a key: its newest one, unless that is deprecated
 abbrev pub live_child : Trail → ℕ → Key → Option ℕ
 live_child t m key = live_of t (child_of t m key)
+
+-- a child of a map with n entries, where its last field joins with a detail in place
+abbrev pub fit_of : Trail → Option ℕ → ℕ → Detail → Option ℕ
+fit_of t None n d = None
+fit_of t (Some c) n d = if joins_in_place (detail_at t c n) (Some d) then Some c else None
+
+-- the live child of a map for a key, where its last field joins with a detail in place
+abbrev pub fitting_child : Trail → ℕ → Key → Detail → Option ℕ
+fitting_child t m key d = fit_of t (live_child t m key) (count_of t m) d
+
+-- what the last field of a map's child for a key admits after it was asked to admit a detail
+abbrev pub asked_detail : Trail → ℕ → Key → Detail → Detail
+asked_detail t m key d = child_detail t (live_child t m key) (count_of t m) d
+
+-- the field that gets that: of the child that fits, or else the first new one
+abbrev pub AskGets : Trail → ℕ → Key → Detail → ℕ → ℕ → Detail → Type 0
+AskGets t m key d first f e = ChildGets t (fitting_child t m key d) (count_of t m) (asked_detail t m key d) first f e
 
 -- a new child of a map with n entries needs a map, an array, a field and a link
 abbrev pub child_need : Option ℕ → ℕ → Need

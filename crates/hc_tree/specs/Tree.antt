@@ -47,7 +47,7 @@ HaveTaggedAccessors t m n = (k f : ℕ) (key : Key) → k < n → key_at t m k �
 abbrev pub IsNarrow : Detail → Type 0
 IsNarrow d = d.rep ≢ Wide
 
--- no field is wide so far, so that every join is one in place
+-- no field is wide: every join is one in place
 abbrev pub AreNarrow : Trail → Type 0
 AreNarrow t = (f : ℕ) (d : Detail) → detail_in t f ≡ Some d → IsNarrow d
 
@@ -111,9 +111,8 @@ pub record IsSoundMap (t : Trail) (m : ℕ) (g : GateWord) : Type 0 where
   pub child : (p : ℕ) → parent_in t m ≡ Some (Some p) → IsLedTo t p m
   pub root : g.is_private ≡ false → parent_in t m ≡ Some None → IsBare t m g
 
--- the tree is sound: each open map is, what a root word names is a root, no field is wide, and each has its place
+-- the tree is sound: each open map is, what a root word names is a root, and each field has its place
 pub record IsTree (t : Trail) : Type 0 where
   pub maps : (m : ℕ) (g : GateWord) → gate_in t m ≡ Some g → IsSoundMap t m g
   pub roots : (o r : ℕ) → (root_in t o).map ≡ Some r → IsRoot t (Some o) r
-  pub narrow : AreNarrow t
   pub places : HaveOnePlace t

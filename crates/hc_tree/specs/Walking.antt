@@ -19,7 +19,7 @@ use Rattle.hc_tree.specs.declared.retarget.Wanted.{Wanted}
 use Rattle.hc_tree.specs.declared.retarget.Wanted.TheVariants.{Same, With, Joined}
 use Rattle.hc_tree.specs.Growth.{live_child, root_of, root_need, with_named_root}
 use Rattle.hc_tree.specs.Needs.{IsWithin, arrays_upto, both, walk_need}
-use Rattle.hc_tree.specs.Tree.{IsNarrow, IsRoot, IsTree, gate_with, tagged_field}
+use Rattle.hc_tree.specs.Tree.{IsRoot, IsTree, gate_with, tagged_field}
 
 -- a shared map that is nobody's child is the root that its prototype names; the root of null is one
 pub record AreRoots (t : Trail) (of_null : Option ℕ) : Type 0 where
@@ -99,7 +99,6 @@ wanted_at t m first (Joined end count) j = if nat_lt j count then joined_at t en
 pub record IsDetail (s : Shape) (t : Trail) (d : Detail) : Type 0 where
   pub form : IsClassInRange d.class
   pub there : IsClassThere s t d.class
-  pub narrow : IsNarrow d
 
 -- a detail may be that of a new field for a map's k-th entry
 pub record MayAdmit (s : Shape) (t : Trail) (m k : ℕ) (d : Detail) : Type 0 where

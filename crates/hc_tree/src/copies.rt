@@ -9,7 +9,7 @@ ghost use Rattle.hc_heap.specs.States.{IsHeap, Goes, HasRoom, with_write};
 ghost use Rattle.hc_descs.specs.Copies.{HasArray};
 ghost use Rattle.hc_descs.specs.Entries.{count_of, field_at, IsOpenMap};
 ghost use Rattle.hc_tree.specs.Details.{DetailsAre};
-ghost use Rattle.hc_tree.specs.Tree.{AreNarrow, IsTree, gate_with};
+ghost use Rattle.hc_tree.specs.Tree.{IsTree, gate_with};
 ghost use Rattle.hc_tree.specs.Needs.{HasSpace, IsSpaceExact, used_after};
 ghost use Rattle.hc_tree.specs.Growth.{IsPlaced, MayBePrototype, IsUnmoved, MakesMap};
 ghost use Rattle.hc_tree.specs.Copying.{CopyGets, Extra, MayBeLast, IsClosed, IsWhole, IsPrivateCopy, HasCopied, HasMore, FillsCopy, with_closed, filled_used, copy_need, copied_count, copied_array, copied_fields};
@@ -165,7 +165,6 @@ fn fill<P: Pace>(
     ensures last { HasMore more h.new.view.trail copy n }
     ensures number { (e : Extra) → more ≡ Some e → field_at h.new.view.trail copy n ≡ Some h.old.view.used.fields }
     ensures array { HasArray h.new.view.trail copy (copied_count more n) }
-    ensures narrow { AreNarrow h.old.view.trail → AreNarrow h.new.view.trail }
     ensures used { h.new.view.used ≡ filled_used fresh more n h.old.view.used }
     ensures writes { Adds (FillsCopy copy h.old.view.used.entries h.old.view.used.fields) h.old.view.trail h.new.view.trail }
     ensures shape { h.new.view.shape ≡ h.old.view.shape }
@@ -194,7 +193,6 @@ fn fill_with_one<P: Pace>(h: &mut Heap<P>, map: u32, child: u32, n: u32, key: Ke
     ensures last { HasMore (Some (key, detail)) h.new.view.trail child n }
     ensures number { field_at h.new.view.trail child n ≡ Some h.old.view.used.fields }
     ensures array { HasArray h.new.view.trail child (n + 1) }
-    ensures narrow { AreNarrow h.old.view.trail → AreNarrow h.new.view.trail }
     ensures used { h.new.view.used ≡ filled_used false (Some (key, detail)) n h.old.view.used }
     ensures writes { Adds (FillsCopy child h.old.view.used.entries h.old.view.used.fields) h.old.view.trail h.new.view.trail }
     ensures shape { h.new.view.shape ≡ h.old.view.shape }
@@ -216,7 +214,6 @@ fn fill_alike<P: Pace>(h: &mut Heap<P>, map: u32, copy: u32, n: u32, fresh: bool
     requires fields { HasRoom h.old.view Fields (copied_fields fresh None n) }
     ensures entries { HasCopied fresh h.new.view.trail copy map n h.old.view.used.fields }
     ensures array { HasArray h.new.view.trail copy n }
-    ensures narrow { AreNarrow h.old.view.trail → AreNarrow h.new.view.trail }
     ensures used { h.new.view.used ≡ filled_used fresh None n h.old.view.used }
     ensures writes { Adds (FillsCopy copy h.old.view.used.entries h.old.view.used.fields) h.old.view.trail h.new.view.trail }
     ensures shape { h.new.view.shape ≡ h.old.view.shape }

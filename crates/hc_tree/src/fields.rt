@@ -1,5 +1,5 @@
 //! What the fields of maps admit.
-ghost use Rattle.std.specs.Prelude.{◌≡◌, ℕ, ◌+◌, ◌<◌, Some, IsSomeAnd};
+ghost use Rattle.std.specs.Prelude.{◌≡◌, ℕ, ◌+◌, ◌<◌, IsTrue, Some, IsSomeAnd};
 ghost use Rattle.hc_layout.specs.declared.shape.Region.TheVariants.{Fields};
 ghost use Rattle.hc_value.specs.Field.{IsClassInRange};
 ghost use Rattle.hc_heap.specs.Readings.{gate_in};
@@ -8,8 +8,8 @@ ghost use Rattle.hc_heap.specs.Kept.{Adds};
 ghost use Rattle.hc_heap.specs.States.{IsHeap, Goes, HasRoom, OnlyLoads};
 ghost use Rattle.hc_descs.specs.Entries.{field_at};
 ghost use Rattle.hc_fields.specs.Fields.{raised};
-ghost use Rattle.hc_tree.specs.Tree.{AreNarrow, IsNarrow, IsTree};
-ghost use Rattle.hc_tree.specs.Details.{detail_at, joined_with};
+ghost use Rattle.hc_tree.specs.Tree.{IsTree};
+ghost use Rattle.hc_tree.specs.Details.{detail_at, joined_with, joins_in_place};
 ghost use Rattle.hc_tree.specs.Copying.{MakesFields, IsLikeField};
 
 use crate::laws::maps_are_kept;
@@ -36,11 +36,11 @@ pub fn detail_at<P: Pace>(h: &mut Heap<P>, map: u32, k: u32) -> Detail
     h.detail(field).unwrap()
 }
 
-/// Joins what the field of an open map's k-th entry admits with a detail, in place.
+/// Joins what the field of an open map's k-th entry admits with a detail, which is to be a join in place.
 pub fn admit<P: Pace>(h: &mut Heap<P>, map: u32, k: u32, detail: Detail)
     requires tree { IsTree h.old.view.trail }
     requires entry { IsSomeAnd (gate_in h.old.view.trail map) (λ g. k < g.entries) }
-    requires narrow { IsNarrow detail }
+    requires fits { IsTrue (joins_in_place (detail_at h.old.view.trail map k) (Some detail)) }
     requires class { IsClassInRange detail.class }
     requires there { IsClassThere h.old.view.shape h.old.view.trail detail.class }
     ensures view { IsSomeAnd (field_at h.old.view.trail map k) (λ f. h.new.view ≡ record h.old.view { trail = raised h.old.view.trail f detail }) }
@@ -67,7 +67,6 @@ pub(crate) fn new_fields<P: Pace>(h: &mut Heap<P>, map: u32, owner: u32, n: u32)
     ensures used { h.new.view.used ≡ record h.old.view.used { fields = h.old.view.used.fields + n } }
     ensures writes { Adds (MakesFields h.old.view.used.fields) h.old.view.trail h.new.view.trail }
     ensures made { (k : ℕ) → k < n → IsLikeField h.new.view.trail owner map k (result + k) }
-    ensures narrow { AreNarrow h.old.view.trail → AreNarrow h.new.view.trail }
     ensures heap { IsHeap h.new.view }
     ensures goes { Goes h.old.desk h.new.desk }
     ensures went { P.went h.old.pace h.old.desk.trail h.new.desk.trail h.new.pace }

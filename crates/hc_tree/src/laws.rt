@@ -1,5 +1,5 @@
 //! What a lawful trail keeps of maps. The functions do nothing: each has a law as its contract, for a proof that calls it.
-ghost use Rattle.hc_tree.specs.Dying.{LiveStandHigh, OneIsLive, OwnerIsFreed, OwnersStand, ParentIsSpared};
+ghost use Rattle.hc_tree.specs.Dying.{LiveIsChild, LiveStandHigh, OneIsLive, OwnerIsFreed, OwnersStand, ParentIsSpared};
 ghost use Rattle.hc_tree.specs.Kept.{MapsAreKept, TreesStay};
 
 use hc_heap::{details_rise, entries_are_kept, gates_are_open, written_is_kept};
@@ -28,6 +28,12 @@ pub fn owners_stand()
 
 pub fn one_is_live()
     ensures law { OneIsLive }
+{
+    same_keys_are_equal();
+}
+
+pub fn live_is_child()
+    ensures law { LiveIsChild }
 {
     same_keys_are_equal();
 }

@@ -16,8 +16,8 @@ pub use copies::private_copy;
 pub use dying::deprecate;
 pub use fields::{admit, detail_at};
 pub use laws::{
-    live_stand_high, maps_are_kept, one_is_live, owner_is_freed, owners_stand, parent_is_spared,
-    trees_stay,
+    live_is_child, live_stand_high, maps_are_kept, one_is_live, owner_is_freed, owners_stand,
+    parent_is_spared, trees_stay,
 };
 pub use mark::mark_unstable;
 pub use need::{

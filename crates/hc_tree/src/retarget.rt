@@ -1,12 +1,13 @@
 //! The shared map with another prototype and the keys of a map.
-ghost use Rattle.std.specs.Prelude.{ℕ, ◌≡◌, ◌+◌, ◌<◌, ◌≤◌, false, None, Some};
+ghost use Rattle.std.specs.Prelude.{ℕ, ◌≡◌, ◌+◌, ◌<◌, ◌≤◌, true, false, None, Some};
 ghost use Rattle.hc_value.specs.declared.key.Key.{Key};
 ghost use Rattle.hc_heap.specs.Readings.{bits_in, gate_in};
 ghost use Rattle.hc_heap.specs.States.{Goes};
 ghost use Rattle.hc_descs.specs.Entries.{count_of, key_at};
 ghost use Rattle.hc_tree.specs.Growth.{MayBePrototype, child_need, live_child};
 ghost use Rattle.hc_tree.specs.Needs.{HasSpace, build_need, walk_need};
-ghost use Rattle.hc_tree.specs.Tree.{IsTree, gate_with};
+ghost use Rattle.hc_tree.specs.Details.{fits_at};
+ghost use Rattle.hc_tree.specs.Tree.{AreNarrow, IsTree, gate_with};
 ghost use Rattle.hc_tree.specs.Walking.{AreJoined, AreRoots, HasMapFor, IsBuilt, IsLiveEnd, IsWalked, MayAdmit, MayBeWanted, shared_need, wanted_at};
 
 use crate::children::{live, make_child};
@@ -54,12 +55,14 @@ pub fn live_end<P: Pace>(h: &mut Heap<P>, root: u32, map: u32, n: u32) -> u32
 }
 
 /// Joins what the first fields of a map with so many entries admit, up to a place, with what the fields of another map do.
+/// These are to be joins in place.
 pub fn admit_all<P: Pace>(h: &mut Heap<P>, end: u32, map: u32, stop: u32, count: u32, n: u32)
     requires tree { IsTree h.old.view.trail }
     requires end { gate_in h.old.view.trail end ≡ Some (gate_with count false) }
     requires map { gate_in h.old.view.trail map ≡ Some (gate_with n false) }
     requires within { count ≤ n }
     requires upto { stop ≤ count }
+    requires fits { (j : ℕ) → j < stop → fits_at h.old.view.trail end map j ≡ true }
     ensures joined { AreJoined h.old.view h.new.view end map stop count n stop }
     ensures goes { Goes h.old.desk h.new.desk }
     ensures went { P.went h.old.pace h.old.desk.trail h.new.desk.trail h.new.pace }
@@ -170,6 +173,7 @@ pub fn build<P: Pace>(
 // Comes from a live root to the map with the n keys of a map. Maps that are missing are made.
 fn walk<P: Pace>(h: &mut Heap<P>, root: u32, map: u32, n: u32) -> u32
     requires tree { IsTree h.old.view.trail }
+    requires narrow { AreNarrow h.old.view.trail }
     requires live { (bits_in h.old.view.trail root).deprecated ≡ false }
     requires root { gate_in h.old.view.trail root ≡ Some (gate_with 0 false) }
     requires map { gate_in h.old.view.trail map ≡ Some (gate_with n false) }
@@ -188,7 +192,8 @@ fn walk<P: Pace>(h: &mut Heap<P>, root: u32, map: u32, n: u32) -> u32
     build(h, end, map, count, n, Wanted::Same)
 }
 
-/// The shared map with a prototype and the n keys of a map. Maps that are missing are made, for which there is room.
+/// The shared map with a prototype and the n keys of a map, where no field is wide. Maps that are missing are made, for which
+/// there is room.
 pub fn map_for<P: Pace>(
     h: &mut Heap<P>,
     map: u32,
@@ -197,6 +202,7 @@ pub fn map_for<P: Pace>(
     of_null: &mut Option<u32>,
 ) -> u32
     requires tree { IsTree h.old.view.trail }
+    requires narrow { AreNarrow h.old.view.trail }
     requires roots { AreRoots h.old.view.trail of_null.old }
     requires map { gate_in h.old.view.trail map ≡ Some (gate_with n false) }
     requires proto { MayBePrototype h.old.view.used h.old.view.trail proto }

@@ -20,12 +20,12 @@ use Rattle.hc_tree.specs.Kept.{MapsAreKept}
 use Rattle.hc_tree.specs.Tree.{IsTree, gate_with}
 use Rattle.hc_tree.specs.Needs.{HasSpace, IsNoLess, arrays_upto, build_need, walk_need}
 use Rattle.hc_tree.specs.Growth.{live_child}
-use Rattle.hc_tree.specs.Details.{NoMap, detail_at, detail_of}
+use Rattle.hc_tree.specs.Details.{NoMap, detail_at, detail_of, fits_at, joins_in_place}
 use Rattle.hc_tree.specs.Frames.{details-same, reshapes-dies, reshapes-later}
 use Rattle.hc_tree.specs.Walking.{IsOwnedFrom, AreJoined, ancestor, GetsJoin, GetsWanted, HasFirstKeys, IsBuilt, IsLiveEnd, joined_at, both_details, wanted_at}
 use Rattle.hc_tree.specs.declared.retarget.Wanted.TheVariants.{Joined}
 use Rattle.hc_update.specs.Renewing.{IsCut, IsDoomed, IsRenewed}
-use Rattle.hc_update.specs.Updating.{IsSomeRoot, IsStop, IsUpdated, UpdateGets, fits_at, joins_in_place, updated_at}
+use Rattle.hc_update.specs.Updating.{IsSomeRoot, IsStop, IsUpdated, UpdateGets, updated_at}
 use Rattle.hc_update.proofs.Cuts.{ancestor-same, some-of}
 use Rattle.hc_update.proofs.Renewed.{after-cut, cut-ends, cut-key, cut-keys, cut-reading, renewed, renewed-kept}
 

@@ -53,7 +53,7 @@ module _ (maps : MapsAreKept) (v w : View) (end count stop base : ℕ) (heap : I
 
   -- a detail that could be asked for still can
   pub detail-after : (d : Detail) → IsDetail v.shape v.trail d → IsDetail w.shape w.trail d
-  detail-after d h = record { form = h.form; there = there-by d.class h.there; narrow = h.narrow }
+  detail-after d h = record { form = h.form; there = there-by d.class h.there }
     where
       there-by : (c : Class) → IsClassThere v.shape v.trail c → IsClassThere w.shape w.trail c
       there-by (Of x) y = (subst (λ (s : Shape). x < s.maps) (sym same-shape) y.0, let g = some-of (gate_in v.trail x) y.1 in subst (λ (o : Option GateWord). IsSome o) (sym (after-cut.written.gate x g.0 g.1)) refl)

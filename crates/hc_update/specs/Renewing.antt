@@ -1,5 +1,5 @@
 -- Maps that die because a field outgrows its layout, and the maps that are made in their place.
-use Rattle.std.specs.Prelude.{◌≡◌, ◌≢◌, ◌⊎◌, ℕ, ◌+◌, ◌<◌, ◌≤◌, false, IsTrue, Option, Some, None, IsSome, []}
+use Rattle.std.specs.Prelude.{◌≡◌, ◌≢◌, ◌⊎◌, ℕ, ◌+◌, ◌<◌, ◌≤◌, false, IsTrue, Option, Some, None, []}
 use Rattle.hc_value.specs.declared.field.Detail.{Detail}
 use Rattle.hc_value.specs.declared.key.Key.{Key}
 use Rattle.hc_heap.specs.Writes.{Write, Trail, Bits}
@@ -13,7 +13,7 @@ use Rattle.hc_tree.specs.Tree.{IsTree, gate_with}
 use Rattle.hc_tree.specs.Needs.{arrays_upto}
 use Rattle.hc_tree.specs.Growth.{live_child}
 use Rattle.hc_tree.specs.Details.{Reshapes, detail_at}
-use Rattle.hc_tree.specs.Dying.{IsUnder, dead_bits}
+use Rattle.hc_tree.specs.Dying.{HaveDied, IsUnder, dead_bits}
 use Rattle.hc_tree.specs.Walking.{GetsWanted, IsOwnedFrom, OpensNoRoot, wanted_at}
 use Rattle.hc_tree.specs.declared.retarget.Wanted.TheVariants.{With}
 
@@ -33,7 +33,7 @@ Cuts old m n i t _ = ⊥
 
 -- those maps are deprecated, each that was open
 abbrev pub AreDead : Trail → Trail → ℕ → ℕ → ℕ → Type 0
-AreDead old new m n i = (x : ℕ) → IsDoomed old m n i x → IsSome (gate_in old x) → IsTrue (bits_in new x).deprecated
+AreDead old new m n i = HaveDied (IsDoomed old m n i) old new
 
 -- the owner of a map's i-th field was deprecated with all maps under it, and nothing else was stored. What is left is the
 -- map above it, which has the first i entries; it is the map itself where that has no more

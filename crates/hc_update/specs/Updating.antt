@@ -1,12 +1,11 @@
 -- The live map that an update comes to: found where the fields of live maps join with a map's own in place, and made from the
 -- first place on where they don't, or where there is no live map.
-use Rattle.std.specs.Prelude.{◌≡◌, ◌⊎◌, ℕ, ◌<◌, ◌≤◌, Bool, true, false, Option, Some}
-use Rattle.hc_value.specs.Field.{in_place_of, join_of}
+use Rattle.std.specs.Prelude.{◌≡◌, ◌⊎◌, ℕ, ◌<◌, ◌≤◌, true, false, Option}
 use Rattle.hc_value.specs.declared.field.Detail.{Detail}
 use Rattle.hc_heap.specs.Writes.{Trail}
 use Rattle.hc_heap.specs.States.{View}
 use Rattle.hc_tree.specs.Tree.{IsRoot}
-use Rattle.hc_tree.specs.Details.{detail_at}
+use Rattle.hc_tree.specs.Details.{detail_at, fits_at}
 use Rattle.hc_tree.specs.Walking.{GetsJoin, GetsWanted, IsLiveEnd, wanted_at}
 use Rattle.hc_tree.specs.declared.retarget.Wanted.TheVariants.{Joined}
 use Rattle.hc_update.specs.Renewing.{IsRenewed}
@@ -15,15 +14,6 @@ use Rattle.hc_update.specs.Renewing.{IsRenewed}
 pub record IsSomeRoot (t : Trail) (r : ℕ) : Type 0 where
   pub prototype : Option ℕ
   pub root : IsRoot t prototype r
-
--- what a field admits is joined with another detail in place
-abbrev pub joins_in_place : Option Detail → Option Detail → Bool
-joins_in_place (Some e) (Some d) = in_place_of e.rep (join_of e.rep d.rep)
-joins_in_place _ _ = false
-
--- what the field of a map's j-th entry admits is joined in place with what another map's does
-abbrev pub fits_at : Trail → ℕ → ℕ → ℕ → Bool
-fits_at t end m j = joins_in_place (detail_at t end j) (detail_at t m j)
 
 -- the first of so many places at which the fields of a map don't join in place with those of another; past them where all do
 pub record IsStop (t : Trail) (end m count k : ℕ) : Type 0 where

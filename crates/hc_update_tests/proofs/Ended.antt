@@ -13,7 +13,7 @@ use Rattle.hc_value.specs.declared.field.Detail.{Detail}
 use Rattle.hc_heap.specs.Lawful.{IsClassThere}
 use Rattle.hc_tree.specs.Walking.{IsDetail}
 use Rattle.hc_heap.specs.Writes.{Write, Trail}
-use Rattle.hc_heap.specs.Readings.{gate_in, bits_in}
+use Rattle.hc_heap.specs.Readings.{gate_in, bits_in, parent_in}
 use Rattle.hc_heap.specs.Lawful.{Lawful}
 use Rattle.hc_heap.specs.States.{View, IsHeap}
 use Rattle.hc_heap.specs.Kept.{Adds}
@@ -21,8 +21,9 @@ use Rattle.hc_heap.specs.Frames.{goes-on-of}
 use Rattle.hc_descs.specs.Entries.{key_at, HasName, LacksName, count_of, entries_in}
 use Rattle.hc_tree.specs.Kept.{MapsAreKept, MapsStay}
 use Rattle.hc_tree.specs.Tree.{IsTree, IsRoot, IsChildFor, gate_with}
+use Rattle.hc_tree.specs.Dying.{MayDie}
 use Rattle.hc_tree.specs.Growth.{MayGrow, live_of, live_child}
-use Rattle.hc_update_tests.specs.Branches.{IsEnd, IsPlain, RootsStay}
+use Rattle.hc_update_tests.specs.Branches.{ChildrenStay, IsEnd, IsPlain, IsUnderOf, RootsStay}
 
 -- a root begins one
 pub end-begins : (v : View) (r : ℕ) (p : Option ℕ) → IsHeap v → IsTree v.trail → IsRoot v.trail p r → IsEnd v r 0
@@ -85,6 +86,22 @@ not-dead : (b c : Bool) → c ≡ false → (b ≡ true → c ≡ true) → b �
 not-dead true c live falls = let n : true ≡ false = sym (falls refl) ∙ live in let z : ⊥ = cc in absurd z
 not-dead false c live falls = refl
 
+-- which is under its old end
+pub child-under : MapsAreKept → {P : Trail → Write → Type 0} (old new : View) (m n c : ℕ) (key : Key) → new.shape ≡ old.shape → Adds P old.trail new.trail → IsHeap new → IsEnd old m n
+    → IsSomeAnd (gate_in new.trail m) (λ g. IsChildFor new.trail m g c key) → IsUnderOf new.trail c (n + 1) m
+child-under law {P} old new m n c key shape writes heap h child =
+    let after : Lawful old.shape new.trail = subst (λ (s : Shape). Lawful s new.trail) shape heap.lawful in
+    let kept = law old.shape old.trail new.trail h.heap.lawful (goes-on-of old.shape writes after) in
+    let is = child-at (λ g. IsChildFor new.trail m g c key) (gate_in new.trail m) (gate_with n false) (kept.written.gate m (gate_with n false) h.gate) child in
+    record { gate = is.gate; parent = is.parent }
+
+-- a map with a parent may die
+pub under-may : (t : Trail) (m n p : ℕ) → IsUnderOf t m n p → IsSomeAnd (gate_in t m) (MayDie t m)
+under-may t m n p h = subst (λ (o : Option GateWord). IsSomeAnd o (MayDie t m)) (sym h.gate) (λ shared top. has-parent (parent_in t m) h.parent top)
+  where
+    has-parent : (o : Option (Option ℕ)) → o ≡ Some (Some p) → o ≡ Some None → ⊥
+    has-parent o x y = cc
+
 -- the map that got a child is the end of its branch still
 pub end-stays : MapsAreKept → {P : Trail → Write → Type 0} (old new : View) (m n c : ℕ) (key : Key) → new.shape ≡ old.shape → Adds P old.trail new.trail → IsHeap new → IsTree new.trail → IsEnd old m n
     → IsSomeAnd (gate_in new.trail m) (λ g. IsChildFor new.trail m g c key) → live_child new.trail m key ≡ Some c → IsEnd new m n
@@ -114,16 +131,19 @@ class-is P c is any = subst P (sym is) any
 
 -- fields can be asked to admit a plain detail
 pub plain-is : (s : Shape) (t : Trail) (d : Detail) → IsPlain d → IsDetail s t d
-plain-is s t d plain = record { form = class-is IsClassInRange d.class plain.any tt; there = class-is (IsClassThere s t) d.class plain.any tt; narrow = plain.narrow }
+plain-is s t d plain = record { form = class-is IsClassInRange d.class plain tt; there = class-is (IsClassThere s t) d.class plain tt }
 
 module _ (law : MapsAreKept) {P : Trail → Write → Type 0} (old new : View) (shape : new.shape ≡ old.shape) (writes : Adds P old.trail new.trail) (heap : IsHeap old) (heap_then : IsHeap new) where
   pub later : MapsStay old.trail new.trail
   later = law old.shape old.trail new.trail heap.lawful (goes-on-of old.shape writes (subst (λ (s : Shape). Lawful s new.trail) shape heap_then.lawful))
 
+  pub children-stay : ChildrenStay old.trail new.trail
+  children-stay m n p child = record { gate = later.written.gate m (gate_with n false) child.gate; parent = later.written.parent m (Some p) child.parent }
+
   pub roots-stay : RootsStay old.trail new.trail
   roots-stay r root = record { gate = later.written.gate r (gate_with 0 false) root.gate; parent = later.written.parent r None root.parent; prototype = later.written.prototype r None root.prototype }
 
-shared-of : (o : Option GateWord) (n : ℕ) → o ≡ Some (gate_with n false) → IsSomeAnd o (λ g. g.is_private ≡ false)
+pub shared-of : (o : Option GateWord) (n : ℕ) → o ≡ Some (gate_with n false) → IsSomeAnd o (λ g. g.is_private ≡ false)
 shared-of o n is = subst (λ (x : Option GateWord). IsSomeAnd x (λ g. g.is_private ≡ false)) (sym is) refl
 
 -- the end of a branch is shared, later on too

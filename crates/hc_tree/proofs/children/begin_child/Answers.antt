@@ -113,7 +113,7 @@ whole g c =
     let fresh : f ≡ v.used.fields = c.new_field-field.ensures.fresh ∙ ap (λ (w : View). w.used.fields) e1 in
     let unwritten : owner_in v.trail f ≡ None = c.unused_says_nothing.ensures.law v.used v.trail OwnerOfField f heap.used (omega (arith, fresh)) in
     filled-child v c.set_proto.new.self.view c.copy.new.h.view m child n f p c.args.key c.args.detail same counts heap c.copy.ensures.heap c.copy.ensures.shape
-    c.copy.ensures.writes c.copy.ensures.old c.copy.ensures.last c.copy.ensures.array c.copy.ensures.spare c.requires.tree new gate gate4 is (omega arith) c.requires.live c.requires.dead c.requires.proper c.requires.accessor c.requires.narrow unwritten c.requires.lacks
+    c.copy.ensures.writes c.copy.ensures.old c.copy.ensures.last c.copy.ensures.array c.copy.ensures.spare c.requires.tree new gate gate4 is (omega arith) c.requires.live c.requires.dead c.requires.proper c.requires.accessor unwritten c.requires.lacks
   where
     begun-is : (v w : View) (m child f : ℕ) (p : Option ℕ) (d : Detail) → w ≡ with_write (with_write (with_new_field f child d (with_map child v)) (Parent child (Some m))) (Prototype child p) → w ≡ record v { trail = begun v.trail m child f p d; used = w.used }
     begun-is v w m child f p d e = e ∙ ap (λ (x : View). record v { trail = begun v.trail m child f p d; used = x.used }) (sym e)

@@ -76,21 +76,25 @@ returns-clause-writes g c =
     adds-on (marked-writes v.used v.trail c.args.map) (returns-clause-begins g c)
 
 -- the writes, with what the new field gets
-pub returns-clause-gets : goal.returns-clause-gets
-returns-clause-gets g c =
+pub returns-clause-first : goal.returns-clause-first
+returns-clause-first g c =
     let v = c.args.h.now.view in
     let m = c.args.map in
     let child = c.begin_child-child.result in
     let G : ℕ → Detail → Type 0 = ChildGets v.trail None c.args.n c.args.detail v.used.fields in
     let used : c.mark_unstable.new.h.view.used ≡ v.used = ap (λ (w : View). w.used) c.mark_unstable.ensures.view in
-    let first : Adds (Reshapes v.used NoMap G) v.trail c.mark_unstable.new.h.view.trail =
-    subst (λ (w : View). Adds (Reshapes v.used NoMap G) v.trail w.trail) (sym c.mark_unstable.ensures.view) (marked-gets v.used G v.trail m) in
-    let second : Adds (Reshapes v.used NoMap G) c.mark_unstable.new.h.view.trail c.begin_child-child.new.h.view.trail =
-    subst (λ (u : Shape). Adds (Reshapes u NoMap (ChildGets v.trail None c.args.n c.args.detail u.fields)) c.mark_unstable.new.h.view.trail c.begin_child-child.new.h.view.trail) used c.begin_child-child.ensures.gets in
+    let second : Adds (Reshapes v.used NoMap G) (marked v.trail m) c.begin_child-child.new.h.view.trail =
+    subst (λ (x : View). Adds (Reshapes v.used NoMap G) x.trail c.begin_child-child.new.h.view.trail) c.mark_unstable.ensures.view
+    (subst (λ (u : Shape). Adds (Reshapes u NoMap (ChildGets v.trail None c.args.n c.args.detail u.fields)) c.mark_unstable.new.h.view.trail c.begin_child-child.new.h.view.trail) used c.begin_child-child.ensures.gets) in
     let number : v.used.maps ≤ child = subst (λ (u : Shape). u.maps ≤ child) used (omega (arith, c.begin_child-child.ensures.number)) in
     let links : c.set_gate.new.self.view.used.links ≡ v.used.links = ap (λ (w : View). w.used.links) c.set_gate.ensures.view ∙ (ap (λ (u : Shape). u.links) c.begin_child-child.ensures.used ∙ ap (λ (u : Shape). u.links) used) in
     let third = linked-gets v.used G c.begin_child-child.new.h.view.trail m child c.set_gate.new.self.view.used.links (gate_with (c.args.n + 1) false) c.args.key number (omega arith) in
-    adds-on (adds-on first second) (subst (λ (t : Trail). Adds (Reshapes v.used NoMap G) c.begin_child-child.new.h.view.trail t) (sym (trail-is g c)) third)
+    adds-on second (subst (λ (t : Trail). Adds (Reshapes v.used NoMap G) c.begin_child-child.new.h.view.trail t) (sym (trail-is g c)) third)
+
+pub returns-clause-gets : goal.returns-clause-gets
+returns-clause-gets g c =
+    let v = c.args.h.now.view in
+    adds-on (marked-gets v.used (ChildGets v.trail None c.args.n c.args.detail v.used.fields) v.trail c.args.map) (returns-clause-first g c)
 
 pub returns-clause-bare : goal.returns-clause-bare
 returns-clause-bare g c =

@@ -7,9 +7,9 @@ use Rattle.hc_heap.specs.Frames.{adds-none}
 use Rattle.hc_descs.specs.Entries.{AreFree, entries_in}
 use Rattle.hc_descs.specs.Copies.{FillsArray, HasKeysOf, HasOwnArray}
 use Rattle.hc_tree.specs.Copying.{HasNewFields, HasCopied}
-use Rattle.hc_tree.proofs.Arrays.{no-has, own-has, narrow-same}
+use Rattle.hc_tree.proofs.Arrays.{no-has, own-has}
 use Rattle.hc_tree.proofs.Made.{array-same, gate-same}
-use Rattle.hc_tree.proofs.Filled.{count-is, some-entries, still-open, array-fills, both-fill, detail-same, has-new, like-made, used-new, room-kept}
+use Rattle.hc_tree.proofs.Filled.{count-is, some-entries, still-open, array-fills, both-fill, has-new, like-made, used-new, room-kept}
 use Rattle.hc_tree.proofs.copies.fill_alike.Goals as goal
 
 pub returns-then-n-eq0-clause-writes : goal.returns-then-n-eq0-clause-writes
@@ -31,11 +31,6 @@ returns-then-not-fresh-clause-array g c =
     own-has end c.args.copy c.args.n v.used.entries (omega (arith, c.if-n-eq0.false))
     (subst (λ (k : ℕ). HasOwnArray end c.args.copy k v.used.entries) count c.copy_all.ensures.array)
     (subst (λ (k : ℕ). AreFree end (v.used.entries + k)) count c.copy_all.ensures.spare)
-
-pub returns-then-not-fresh-clause-narrow : goal.returns-then-not-fresh-clause-narrow
-returns-then-not-fresh-clause-narrow g c narrow =
-    let v = c.args.h.now.view in
-    narrow-same v.trail c.copy_all.new.h.view.trail (λ x. detail-same c.args.copy v.used.entries x v.trail c.copy_all.new.h.view.trail c.copy_all.ensures.writes) narrow
 
 pub copy_keys-requires-clause-bare : goal.copy_keys-requires-clause-bare
 copy_keys-requires-clause-bare g c =
@@ -122,9 +117,3 @@ returns-clause-array g c =
     own-has end c.args.copy c.args.n mid.used.entries (omega (arith, c.if-n-eq0.false))
     (subst (λ (k : ℕ). HasOwnArray end c.args.copy k mid.used.entries) count c.copy_keys.ensures.array)
     (subst (λ (k : ℕ). AreFree end (mid.used.entries + k)) count c.copy_keys.ensures.spare)
-
-pub returns-clause-narrow : goal.returns-clause-narrow
-returns-clause-narrow g c narrow =
-    let mid = c.new_fields-first.new.h.view in
-    let end = c.copy_keys.new.h.view.trail in
-    narrow-same mid.trail end (λ x. detail-same c.args.copy mid.used.entries x mid.trail end c.copy_keys.ensures.writes) (c.new_fields-first.ensures.narrow narrow)

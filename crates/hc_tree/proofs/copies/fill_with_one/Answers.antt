@@ -6,9 +6,8 @@ use Rattle.hc_heap.specs.States.{View}
 use Rattle.hc_descs.specs.Entries.{AreFree, entries_in}
 use Rattle.hc_descs.specs.Copies.{FillsArray, HasOwnArray, IsEntry}
 use Rattle.hc_tree.specs.Copying.{with_field, MakesFields}
-use Rattle.hc_tree.specs.Tree.{AreNarrow}
-use Rattle.hc_tree.proofs.Arrays.{own-has, narrow-field, narrow-same}
-use Rattle.hc_tree.proofs.Filled.{count-is, both-fill, detail-same, ends-with}
+use Rattle.hc_tree.proofs.Arrays.{own-has}
+use Rattle.hc_tree.proofs.Filled.{count-is, both-fill, ends-with}
 use Rattle.hc_tree.proofs.Made.{adds-field}
 use Rattle.hc_tree.proofs.copies.fill_with_one.Goals as goal
 
@@ -35,14 +34,6 @@ returns-clause-array g c =
     own-has end c.args.child (c.args.n + 1) e (omega arith)
     (subst (λ (k : ℕ). HasOwnArray end c.args.child (k + 1) e) count c.copy.ensures.array)
     (subst (λ (k : ℕ). AreFree end (e + (k + 1))) count c.copy.ensures.spare)
-
-pub returns-clause-narrow : goal.returns-clause-narrow
-returns-clause-narrow g c narrow =
-    let v = c.args.h.now.view in
-    let f = c.new_field-field.result in
-    let is : c.new_field-field.new.h.view.trail ≡ with_field v.trail f c.args.child c.args.detail = ap (λ (w : View). w.trail) c.new_field-field.ensures.view in
-    narrow-same c.new_field-field.new.h.view.trail c.copy.new.h.view.trail (λ x. detail-same c.args.child c.new_field-field.new.h.view.used.entries x c.new_field-field.new.h.view.trail c.copy.new.h.view.trail c.copy.ensures.writes)
-    (subst (λ (t : Trail). AreNarrow t) (sym is) (narrow-field v.trail f c.args.child c.args.detail narrow c.requires.more.narrow))
 
 pub returns-clause-writes : goal.returns-clause-writes
 returns-clause-writes g c =

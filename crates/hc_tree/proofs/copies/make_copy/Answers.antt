@@ -27,7 +27,7 @@ open_private-requires-clause-tree g c =
     let a = c.new_closed-copy.new.h.view in
     let b = c.fill.new.h.view in
     let after = subst (λ (s : Shape). Lawful s b.trail) c.fill.ensures.shape c.fill.ensures.heap.lawful in
-    fill-tree c.maps_are_kept.ensures.law a.shape a.trail b.trail c.new_closed-copy.result a.used.entries a.used.fields c.new_closed-copy.ensures.heap.lawful after c.fill.ensures.writes c.new_closed-copy.ensures.heap.arrays c.new_closed-copy.ensures.closed (c.fill.ensures.narrow c.new_closed-copy.ensures.tree.narrow) c.new_closed-copy.ensures.tree
+    fill-tree c.maps_are_kept.ensures.law a.shape a.trail b.trail c.new_closed-copy.result a.used.entries a.used.fields c.new_closed-copy.ensures.heap.lawful after c.fill.ensures.writes c.new_closed-copy.ensures.heap.arrays c.new_closed-copy.ensures.closed c.new_closed-copy.ensures.tree
 
 pub open_private-requires-clause-closed : goal.open_private-requires-clause-closed
 open_private-requires-clause-closed g c =
@@ -46,7 +46,7 @@ open_private-requires-clause-whole g c =
     let may = subst (λ (w : View). IfSome c.args.more (λ e. MayBeLast w.shape w.trail c.args.map e.0 e.1)) (sym c.new_closed-copy.ensures.view) (may-still v.shape c.args.more v.trail c.args.map copy c.args.proto c.requires.more) in
     subst (λ (n : ℕ). IsWhole b.trail copy n) (sym c.copied.ensures)
     (filled-whole c.maps_are_kept.ensures.law a.shape c.args.fresh c.args.more a.trail b.trail copy a.used.entries a.used.fields c.args.map c.args.n a.used.fields
-    c.new_closed-copy.ensures.heap.lawful after c.fill.ensures.writes some c.new_closed-copy.ensures.heap.arrays c.new_closed-copy.ensures.closed (c.fill.ensures.narrow c.new_closed-copy.ensures.tree.narrow) c.new_closed-copy.ensures.tree may c.fill.ensures.entries c.fill.ensures.last)
+    c.new_closed-copy.ensures.heap.lawful after c.fill.ensures.writes some c.new_closed-copy.ensures.heap.arrays c.new_closed-copy.ensures.closed c.new_closed-copy.ensures.tree may c.fill.ensures.entries c.fill.ensures.last)
 
 pub open_private-requires-clause-placed : goal.open_private-requires-clause-placed
 open_private-requires-clause-placed g c =

@@ -22,7 +22,7 @@ raise-requires-clause-place g c =
     let d = c.args.detail in
     let read : c.field_at-field.new.h.view ≡ v = ap (λ (s : HeapState g.row.P.Denot). s.view) c.field_at-field.ensures.same in
     subst (λ (w : View). IsSomeAnd (detail_in w.trail c.field_at-field.result) (λ e. IsTrue (in_place_of e.rep (join_of e.rep d.rep)))) (sym read)
-    (place-of v.trail c.field_at-field.result d c.requires.tree.narrow c.field_at-field.ensures.made c.requires.narrow)
+    (place-of v.trail c.args.map c.args.k c.field_at-field.result d c.field_at-field.ensures.field c.requires.fits)
 
 -- the view after the raise
 view-is : (g : Over) (c : goal.After-raise g) → c.raise.new.h.view ≡ record c.args.h.now.view { trail = raised c.args.h.now.view.trail c.field_at-field.result c.args.detail }
@@ -44,4 +44,4 @@ returns-clause-joined g c =
     (subst (λ (w : View). IsSomeAnd (detail_in w.trail c.field_at-field.result) (λ e. detail_in c.raise.new.h.view.trail c.field_at-field.result ≡ Some (joined_with (Some e) d))) read c.raise.ensures.joined)
 
 pub returns-clause-tree : goal.returns-clause-tree
-returns-clause-tree g c = raised-tree c.maps_are_kept.ensures.law c.args.h.now.view c.raise.new.h.view c.field_at-field.result c.args.detail c.stands.ensures.heap c.raise.ensures.heap (view-is g c) c.requires.narrow c.requires.tree
+returns-clause-tree g c = raised-tree c.maps_are_kept.ensures.law c.args.h.now.view c.raise.new.h.view c.field_at-field.result c.args.detail c.stands.ensures.heap c.raise.ensures.heap (view-is g c) c.requires.tree

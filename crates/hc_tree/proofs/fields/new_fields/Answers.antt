@@ -5,8 +5,6 @@ use Rattle.hc_heap.specs.Readings.{gate_in}
 use Rattle.hc_heap.specs.Frames.{goes-none, goes-on}
 use Rattle.hc_heap.specs.States.{View, HeapState}
 use Rattle.hc_tree.specs.Copying.{with_field, detail_at, IsLikeField}
-use Rattle.hc_tree.specs.Tree.{AreNarrow}
-use Rattle.hc_tree.proofs.Arrays.{narrow-at, narrow-field}
 use Rattle.hc_tree.proofs.Made.{and-then, entry-before, detail-same, still-has, AreMade, made-none, made-more, made-like, fields-zero, fields-more}
 use Rattle.hc_tree.proofs.fields.new_fields.Goals as goal
 
@@ -16,7 +14,6 @@ loop-k-init g c =
     record {
       view = fields-zero v;
       made = made-none v.trail c.args.owner c.args.map v.used.fields;
-      narrow = λ narrow. narrow;
       heap = c.stands.ensures.heap;
       goes = goes-none c.args.h.now.desk;
       went = search rules;
@@ -48,10 +45,6 @@ loop-k-preserved g c =
     record {
       view = fields-more v now c.new_field.new.h.view (with_field now.trail f c.args.owner d) k c.loop-k.invariant.view last;
       made = subst (λ (t : Trail). AreMade v.trail t c.args.owner m first (k + 1)) (sym is) (made-more v.trail now.trail c.args.owner m first k d made detail);
-      narrow = λ narrow.
-          let here = c.loop-k.invariant.narrow narrow in
-          subst (λ (t : Trail). AreNarrow t) (sym is)
-          (narrow-field now.trail (first + k) c.args.owner d here (narrow-at now.trail m k d here c.detail_at-detail.ensures.value));
       heap = c.new_field.ensures.heap;
       goes = goes-on c.args.h.now.desk c.loop-k.h.desk c.new_field.new.h.desk c.loop-k.invariant.goes
           (goes-on c.loop-k.h.desk c.detail_at-detail.new.h.desk c.new_field.new.h.desk c.detail_at-detail.ensures.goes c.new_field.ensures.goes);

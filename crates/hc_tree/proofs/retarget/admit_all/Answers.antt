@@ -1,12 +1,13 @@
 use Rattle.std.proofs.Common.{◌≡◌, ◌∙◌, ◌<◌, ◌≤◌, ap, sym, subst, arith, Option, Some}
-use Rattle.std.specs.Prelude.{IsSomeAnd}
+use Rattle.std.specs.Prelude.{IsSomeAnd, IsTrue}
 use Rattle.hc_layout.specs.declared.words.GateWord.{GateWord}
+use Rattle.hc_value.specs.declared.field.Detail.{Detail}
 use Rattle.hc_heap.specs.Readings.{gate_in}
 use Rattle.hc_heap.specs.Frames.{goes-none, goes-on}
 use Rattle.hc_heap.specs.States.{HeapState, View}
 use Rattle.hc_descs.specs.Entries.{field_at}
 use Rattle.hc_fields.specs.Fields.{raised}
-use Rattle.hc_tree.specs.Details.{detail_at, joined_with}
+use Rattle.hc_tree.specs.Details.{detail_at, joined_with, joins_in_place}
 use Rattle.hc_tree.proofs.Joins.{Raised, gates-same, raised-field}
 use Rattle.hc_tree.proofs.Joined.{joined-none, joined-more}
 use Rattle.hc_tree.proofs.retarget.admit_all.Goals as goal
@@ -34,6 +35,24 @@ admit-requires-clause-entry g c =
     let read : c.detail_at-detail.new.h.view ≡ c.loop-k.h.view = ap (λ (s : HeapState g.row.P.Denot). s.view) c.detail_at-detail.ensures.same in
     subst (λ (w : View). IsSomeAnd (gate_in w.trail c.args.end) (λ x. c.loop-k.k < x.entries)) (sym read)
     (subst (λ (o : Option GateWord). IsSomeAnd o (λ x. c.loop-k.k < x.entries)) (sym (gates-same c.args.h.now.view.trail c.loop-k.h.view.trail c.loop-k.invariant.joined.only c.args.end ∙ c.requires.end)) lt)
+
+pub admit-requires-clause-fits : goal.admit-requires-clause-fits
+admit-requires-clause-fits g c =
+    let a = c.args.h.now.view in
+    let b = c.loop-k.h.view in
+    let end = c.args.end in
+    let m = c.args.map in
+    let k = c.loop-k.k in
+    let d = c.detail_at-detail.result in
+    let below : k < c.args.stop = c.loop-k-test.true in
+    let upto : c.args.stop ≤ c.args.count = c.requires.upto in
+    let within : c.args.count ≤ c.args.n = c.requires.within in
+    let read : c.detail_at-detail.new.h.view ≡ b = ap (λ (s : HeapState g.row.P.Denot). s.view) c.detail_at-detail.ensures.same in
+    let it = c.loop-k.invariant.joined in
+    subst (λ (w : View). IsTrue (joins_in_place (detail_at w.trail end k) (Some d))) (sym read)
+    (ap (λ (o : Option Detail). joins_in_place o (Some d)) (it.rest k (omega arith) (omega (arith, below, upto)))
+    ∙ ap (λ (o : Option Detail). joins_in_place (detail_at a.trail end k) o) (sym c.detail_at-detail.ensures.value ∙ it.others k (omega arith) (omega (arith, below, upto, within)))
+    ∙ c.requires.fits k below)
 
 pub loop-k-preserved : goal.loop-k-preserved
 loop-k-preserved g c =

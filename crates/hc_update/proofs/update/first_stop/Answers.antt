@@ -3,8 +3,7 @@ use borrow.Author.Count.{below_more}
 use Rattle.hc_heap.specs.States.{HeapState, View}
 use Rattle.hc_value.specs.Field.{in_place_of}
 use Rattle.hc_value.specs.declared.field.Rep.{Rep}
-use Rattle.hc_tree.specs.Details.{detail_at}
-use Rattle.hc_update.specs.Updating.{fits_at}
+use Rattle.hc_tree.specs.Details.{detail_at, fits_at}
 use Rattle.hc_update.proofs.Raised.{fits-is}
 use Rattle.hc_update.proofs.update.first_stop.Goals as goal
 

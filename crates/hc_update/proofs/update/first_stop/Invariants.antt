@@ -1,6 +1,6 @@
 use Rattle.std.proofs.Common.{◌≡◌, ◌<◌, ℕ, true}
 use Rattle.hc_heap.specs.States.{Goes}
-use Rattle.hc_update.specs.Updating.{fits_at}
+use Rattle.hc_tree.specs.Details.{fits_at}
 use Rattle.hc_update.proofs.update.first_stop.Given as goal
 
 -- all join in place before the k-th

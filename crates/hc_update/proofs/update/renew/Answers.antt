@@ -1,10 +1,16 @@
-use Rattle.std.proofs.Common.{◌≡◌, ◌∙◌, ℕ, ap, sym, subst}
+use Rattle.std.proofs.Common.{◌≡◌, ◌∙◌, ℕ, true, ap, sym, subst}
 use Rattle.hc_heap.specs.States.{HeapState, View}
 use Rattle.hc_descs.specs.Entries.{count_of, entries_in}
+use Rattle.hc_tree.specs.Details.{fits_at}
 use Rattle.hc_tree.specs.Walking.{AreJoined, IsLiveEnd}
 use Rattle.hc_update.specs.Updating.{IsStop}
 use Rattle.hc_update.proofs.Raised.{base-ends, base-keys, base-map, base-wanted, end-gate, end-live, updated-is}
 use Rattle.hc_update.proofs.update.renew.Goals as goal
+
+pub admit_all-requires-clause-fits : goal.admit_all-requires-clause-fits
+admit_all-requires-clause-fits g c j lt =
+    let read : c.first_stop-stop.new.h.view ≡ c.gate.new.self.view = ap (λ (s : HeapState g.row.P.Denot). s.view) c.first_stop-stop.ensures.same in
+    subst (λ (x : View). fits_at x.trail c.live_end-end.result c.args.map j ≡ true) (sym read) (c.first_stop-stop.ensures.stop.before j lt)
 
 pub cut-base-requires-clause-map : goal.cut-base-requires-clause-map
 cut-base-requires-clause-map g c =
