@@ -9,7 +9,7 @@ use Rattle.hc_heap.specs.Kept.{Adds}
 use Rattle.hc_heap.specs.States.{View, HeapState, Goes, OnlyLoads}
 use Rattle.hc_cells.specs.Chains.{Ends, chain, chain_from, has, passes, proto_at, proto_by}
 use Rattle.hc_cells.specs.Cells.{Invalidates, cell_after, valid_cell, with_cell}
-use Rattle.hc_cells.specs.Watched.{AreWatched, is_watched}
+use Rattle.hc_cells.specs.Watched.{AreWatched, AreWatchedBut, is_watched}
 use Rattle.hc_cells.proofs.Chained.{Step, step, chain-none}
 use Rattle.hc_cells.proofs.Frames.{ends-on}
 use Rattle.hc_cells.proofs.Invalid.{after-valid, chain-alike, passes-kept-at}
@@ -109,12 +109,12 @@ module _ {P : Type 0} (a b : HeapState P) (ps : List (Option ℕ)) (p : ℕ) (ma
 
 module _ (old : Trail) (ps : List (Option ℕ)) (o : ℕ) where
   pub marks-taken : (new : Trail) (marks : List Bool) → Adds (Invalidates old ps o) old new → ((c : ℕ) → validity_in new c ≡ cell_after old ps o c)
-      → AreWatched old ps marks → AreWatched new ps (slice_set marks o false)
+      → AreWatchedBut o old ps marks → AreWatched new ps (slice_set marks o false)
   marks-taken new marks writes after watched c p x e h =
       let found = after-valid old ps o (validity_in old c) p (sym (after c) ∙ e) in
       let through : passes old ps p x ≡ true = sym (passes-kept-at old ps o new writes p x) ∙ h in
       let other : x ≢ o = λ is. let clash : true ≡ false = sym through ∙ ap (passes old ps p) is ∙ found.1 in cc in
-      get_or-set_other marks o x false false other ∙ watched c p x found.0 through
+      get_or-set_other marks o x false false other ∙ watched.others c p x found.0 found.1 through
 
 -- A cell that was made
 

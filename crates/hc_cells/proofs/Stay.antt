@@ -3,17 +3,11 @@ use Rattle.std.proofs.Common.{◌≡◌, ◌≢◌, ℕ, zero, suc, ◌<◌, ◌
 use Rattle.std.proofs.lemmas.Bool.Decides.{nat_tests}
 use Rattle.hc_heap.specs.Writes.{Trail}
 use Rattle.hc_heap.specs.Readings.{validity_in}
-use Rattle.hc_heap.specs.States.{View}
-use Rattle.hc_cells.specs.Chains.{Ends, HaveEnds, chain, chain_among, has, passes, proto_at}
-use Rattle.hc_cells.specs.Cells.{AreCells, valid_cell}
-use Rattle.hc_cells.specs.Laws.{ChainsStay, OthersKeep}
-use Rattle.hc_cells.specs.Watched.{AreWatched, is_watched}
+use Rattle.hc_cells.specs.Chains.{Ends, chain, chain_among, has, passes, proto_at}
+use Rattle.hc_cells.specs.Cells.{valid_cell}
+use Rattle.hc_cells.specs.Laws.{ChainsStay, MarksStay, OthersKeep, WaysStay}
 use Rattle.hc_cells.proofs.Chained.{chain-none}
 use Rattle.hc_cells.proofs.Frames.{chains-on}
-
-pub not-true : (b : Bool) → (b ≡ true → ⊥) → b ≡ false
-not-true true h = absurd (h refl)
-not-true false h = refl
 
 module _ (t : Trail) (ps : List (Option ℕ)) (q : ℕ) where
   there-case : (test : Bool) (x : ℕ) (xs : List ℕ) → eqb x q ≡ test → x < length ps → (has xs q ≡ true → q < length ps) → cond test true (has xs q) ≡ true → q < length ps
@@ -50,13 +44,17 @@ module _ (o : ℕ) (t u : Trail) (ps qs : List (Option ℕ)) (keep : OthersKeep 
       ap (λ (x : Option ℕ). has (chain_among m u qs x) o) same
       ∙ ways-stay n m next (omega arith) h.1 (subst (λ (x : Option ℕ). Ends m u qs x) same k.1))
 
-pub marks-stay : ChainsStay → (o : ℕ) (old : View) (new : Trail) (ps qs : List (Option ℕ)) (marks : List Bool) → OthersKeep o old.trail new ps qs
-    → HaveEnds old.trail ps → old.used.objects ≤ length ps → AreCells old.trail old.used → ((c : ℕ) → validity_in new c ≡ validity_in old.trail c)
-    → is_watched marks o ≡ false → AreWatched old.trail ps marks → AreWatched new qs marks
-marks-stay law o old new ps qs marks keep ends items cells same unmarked watched c p x e h =
-    let was : validity_in old.trail c ≡ Some (valid_cell p) = sym (same c) ∙ e in
-    let there : p < old.used.objects = cells.objects c (valid_cell p) was in
-    let end = ends p (omega (arith, there, items)) in
-    let missed = not-true (passes old.trail ps p o) (λ through. let clash : true ≡ false = sym (watched c p o was through) ∙ unmarked in cc) in
-    let chained = law o p old.trail new ps qs keep end missed in
-    watched c p x was (sym (ap (λ xs. has xs x) chained) ∙ h)
+pub marks-stay : ChainsStay → WaysStay → MarksStay
+marks-stay chains ways o old new ps qs marks keep ends after items cells same watched =
+    let was : (c p : ℕ) → validity_in new c ≡ Some (valid_cell p) → validity_in old.trail c ≡ Some (valid_cell p) = λ c p e. sym (same c) ∙ e in
+    let there : (c p : ℕ) → validity_in new c ≡ Some (valid_cell p) → p < length ps = λ c p e. let h : p < old.used.objects = cells.objects c (valid_cell p) (was c p e) in omega (arith, h, items) in
+    let way : (c p : ℕ) → validity_in new c ≡ Some (valid_cell p) → passes new qs p o ≡ passes old.trail ps p o = λ c p e.
+    let h = there c p e in
+    let more = keep.more in
+    ways o p old.trail new ps qs keep (ends p h) (after p (omega (arith, h, more))) in
+    record {
+      this = λ c p e h. watched c p o (was c p e) (sym (way c p e) ∙ h);
+      others = λ c p x e missed h.
+          let chained = chains o p old.trail new ps qs keep (ends p (there c p e)) (sym (way c p e) ∙ missed) in
+          watched c p x (was c p e) (sym (ap (λ xs. has xs x) chained) ∙ h);
+    }

@@ -5,7 +5,7 @@ use Rattle.hc_heap.specs.Readings.{validity_in}
 use Rattle.hc_heap.specs.States.{View}
 use Rattle.hc_cells.specs.Chains.{Ends, HaveEnds, chain, passes, proto_at}
 use Rattle.hc_cells.specs.Cells.{AreCells}
-use Rattle.hc_cells.specs.Watched.{AreWatched, is_watched}
+use Rattle.hc_cells.specs.Watched.{AreWatched, AreWatchedBut}
 
 -- each object but one has the prototype that it had
 pub record OthersKeep (o : ℕ) (old new : Trail) (protos later : List (Option ℕ)) : Type 0 where
@@ -22,8 +22,8 @@ abbrev pub WaysStay : Type 0
 WaysStay = (o p : ℕ) (old new : Trail) (protos later : List (Option ℕ)) → OthersKeep o old new protos later
     → Ends (length protos) old protos (Some p) → Ends (length later) new later (Some p) → passes new later p o ≡ passes old protos p o
 
--- where the object isn't marked, the marks are those of the chains afterwards too
+-- marks of chains before the change are such afterwards too, but for chains through the object
 abbrev pub MarksStay : Type 0
 MarksStay = (o : ℕ) (old : View) (new : Trail) (protos later : List (Option ℕ)) (marks : List Bool) → OthersKeep o old.trail new protos later
-    → HaveEnds old.trail protos → old.used.objects ≤ length protos → AreCells old.trail old.used → ((c : ℕ) → validity_in new c ≡ validity_in old.trail c)
-    → is_watched marks o ≡ false → AreWatched old.trail protos marks → AreWatched new later marks
+    → HaveEnds old.trail protos → HaveEnds new later → old.used.objects ≤ length protos → AreCells old.trail old.used → ((c : ℕ) → validity_in new c ≡ validity_in old.trail c)
+    → AreWatched old.trail protos marks → AreWatchedBut o new later marks

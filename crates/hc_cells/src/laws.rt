@@ -13,4 +13,5 @@ pub fn marks_stay()
     ensures law { MarksStay }
 {
     chains_stay();
+    ways_stay();
 }

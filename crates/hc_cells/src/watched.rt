@@ -6,7 +6,7 @@ ghost use Rattle.hc_heap.specs.Kept.{Adds};
 ghost use Rattle.hc_heap.specs.States.{IsHeap, Goes, HasRoom, OnlyLoads};
 ghost use Rattle.hc_cells.specs.Chains.{Ends, HaveEnds, chain, passes};
 ghost use Rattle.hc_cells.specs.Cells.{AreCells, Invalidates, cell_after, loads_for, named_cell as named_in, valid_cell, with_cell};
-ghost use Rattle.hc_cells.specs.Watched.{AreWatched, is_watched};
+ghost use Rattle.hc_cells.specs.Watched.{AreWatched, AreWatchedBut, is_watched};
 
 use crate::cells::{invalidate, named_cell, new_cell};
 use crate::chain::proto_of;
@@ -100,13 +100,14 @@ impl Watched {
         Some(cell)
     }
 
-    /// What `invalidate` does. Where the object isn't marked there is nothing to do, and nothing is loaded or stored.
+    /// What `invalidate` does, before the object changes or after it. Where the object isn't marked there is nothing to do, and
+    /// nothing is loaded or stored.
     pub fn invalidate<P: Pace>(&mut self, h: &mut Heap<P>, object: u32, protos: &[Option<u32>])
         requires there { object < length self.old }
         requires items { h.old.view.used.objects ≤ length protos.now }
         requires ends { HaveEnds h.old.view.trail protos.now }
         requires cells { AreCells h.old.view.trail h.old.view.used }
-        requires watched { AreWatched h.old.view.trail protos.now self.old }
+        requires watched { AreWatchedBut object h.old.view.trail protos.now self.old }
         ensures after { (c : ℕ) → validity_in h.new.view.trail c ≡ cell_after h.old.view.trail protos.now object c }
         ensures writes { Adds (Invalidates h.old.view.trail protos.now object) h.old.view.trail h.new.view.trail }
         ensures view { h.new.view ≡ record h.old.view { trail = h.new.view.trail } }
