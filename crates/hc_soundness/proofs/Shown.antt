@@ -14,7 +14,7 @@ use Rattle.hc_heap.specs.States.{View}
 use Rattle.hc_descs.specs.Entries.{key_at, field_at, entries_in, count_of, detail_of, detail_at}
 use Rattle.hc_table.specs.World.{object, new_object, place_of, property_of}
 use Rattle.hc_slots.specs.Listed.{listed, length-listed, get_or-listed}
-use Rattle.hc_objects.specs.Meaning.{object_at}
+use Rattle.hc_modes.specs.Meaning.{object_at}
 use Rattle.hc_slots.specs.Meaning.{object_shown, fast_object, fast_props, prop_in, prop_of, held_in}
 use Rattle.hc_soundness.specs.Finding.{Finds, Lacks}
 use Rattle.hc_soundness.specs.Meaning.{Dictionary, kept_of, world, IsKeptSo}

@@ -1,0 +1,71 @@
+-- What the fields of objects' maps are asked to admit.
+use Rattle.std.specs.Prelude.{◌≡◌, ℕ, ◌+◌, IsTrue, Some}
+use Rattle.hc_value.specs.Field.{is_detail_within}
+use Rattle.hc_value.specs.declared.field.Constness.{Constness}
+use Rattle.hc_value.specs.declared.field.Constness.TheVariants.{Const}
+use Rattle.hc_value.specs.declared.field.Detail.{Detail}
+use Rattle.hc_value.specs.declared.prop.Held.{Held}
+use Rattle.hc_value.specs.declared.prop.Held.TheVariants.{Datum, Pair}
+use Rattle.hc_value.specs.declared.prop.Prop.{Prop}
+use Rattle.hc_value.specs.Prop.{kind_of}
+use Rattle.hc_value.specs.declared.field.Rep.TheVariants.{Tagged}
+use Rattle.hc_layout.specs.declared.shape.Shape.{Shape}
+use Rattle.hc_heap.specs.Kept.{GoesOn}
+use Rattle.hc_heap.specs.Lawful.{IsFormOf}
+use Rattle.hc_heap.specs.Writes.{Slot, Trail}
+use Rattle.hc_heap.specs.Readings.{detail_in, map_in, store_in}
+use Rattle.hc_heap.specs.States.{View, with_write}
+use Rattle.hc_descs.specs.Entries.{detail_at, field_at}
+pub use Rattle.hc_facts.specs.Constants.{ConstantsStay}
+pub use Rattle.hc_facts.specs.Honest.{IsHonest}
+use Rattle.hc_facts.specs.Honest.{detail_for}
+use Rattle.hc_fields.specs.Fields.{raised}
+use Rattle.hc_tree.specs.Tree.{IsNarrow, tagged_field}
+use Rattle.hc_slots.specs.Meaning.{IsConstnessFor, held_in, slot_word}
+use Rattle.hc_modes.specs.Changes.{IsGrown, key_of}
+
+-- what a field has to admit for what is held there: what the value asks; for a getter and a setter everything
+abbrev pub held_detail : Trail → Held → Constness → Detail
+held_detail t (Datum v) constness = detail_for t v constness
+held_detail t (Pair getter setter) constness = tagged_field
+
+-- the field of an object's property was asked to admit what is to be held there, and nothing else was stored
+pub record IsAdmitted (old new : View) (o i : ℕ) (held : Held) (constness : Constness) : Type 0 where
+  pub map : ℕ
+  pub field : ℕ
+  pub has : map_in old.trail o ≡ Some map
+  pub is_field : field_at old.trail map i ≡ Some field
+  pub view : new ≡ record old { trail = raised old.trail field (held_detail old.trail held constness) }
+
+-- it was asked so, to stay constant exactly where it is so far and holds that already
+pub record IsAsked (old new : View) (o i : ℕ) (held : Held) : Type 0 where
+  pub constness : Constness
+  pub detail : Detail
+  pub admitted : IsAdmitted old new o i held constness
+  pub was : detail_in old.trail admitted.field ≡ Some detail
+  pub right : IsConstnessFor detail.constness (held_in (kind_of held) detail.rep (slot_word old.trail o i)) held constness
+
+-- what is to be held was stored in the slot of an object's property, and nothing else; no other word is of its form and holds that
+pub record IsStored (old new : View) (o i : ℕ) (held : Held) : Type 0 where
+  pub word : ℕ
+  pub first : ℕ
+  pub is_first : (store_in old.trail o).first ≡ Some first
+  pub view : new ≡ with_write old (Slot (first + i) word)
+  pub holds : held_in (kind_of held) Tagged word ≡ held
+  pub alone : (w : ℕ) → IsFormOf (kind_of held) Tagged w → held_in (kind_of held) Tagged w ≡ held → w ≡ word
+
+-- a map has the entries of another with n of them, and one more, with the key of a property, whose field isn't wide
+pub record IsGrownBy (t : Trail) (m c n : ℕ) (p : Prop) : Type 0 where
+  pub detail : Detail
+  pub narrow : IsNarrow detail
+  pub grown : IsGrown t m c n (key_of p) detail
+
+-- the field of an object's n-th property, which it got, admits what that held
+abbrev pub AsksLast : Trail → Trail → ℕ → ℕ → Prop → Type 0
+AsksLast old new o n p = (c : ℕ) (d : Detail) → map_in new o ≡ Some c → detail_at new c n ≡ Some d → IsTrue (is_detail_within (held_detail old p.held Const) d)
+
+-- each write was lawful, what fields say of values stays true, and constants stay
+pub record FactsStay (s : Shape) (old new : Trail) : Type 0 where
+  pub goes : GoesOn s old new
+  pub constants : ConstantsStay old new
+  pub honest : IsHonest old → IsHonest new
