@@ -1,91 +1,56 @@
--- What an operation on one object writes, and what it leaves.
-use Rattle.std.specs.Prelude.{◌≡◌, ◌≢◌, ℕ, ◌+◌, ◌<◌, ◌≤◌, false, Option, Some, List, length}
-use Rattle.hc_layout.specs.declared.words.GateWord.{GateWord}
-use Rattle.hc_layout.specs.declared.words.RootWord.{RootWord}
+-- The changes of one object, as what tables do.
+use Rattle.std.specs.Prelude.{◌≡◌, ℕ, ◌<◌, Bool, IsTrue, true, false, ⊤, Option, Some, None, length}
 use Rattle.hc_value.specs.Prop.{kind_of}
-use Rattle.hc_value.specs.declared.field.Detail.{Detail}
-use Rattle.hc_value.specs.declared.key.Key.{Key}
-use Rattle.hc_value.specs.declared.prop.Held.{Held}
 use Rattle.hc_value.specs.declared.prop.Prop.{Prop}
-use Rattle.hc_heap.specs.Writes.{Write, Trail, Bits, ObjectMap, Root, Store, Slot}
-use Rattle.hc_heap.specs.Readings.{gate_in, prototype_in, bits_in, map_in, root_in, store_in, slot_in}
-use Rattle.hc_heap.specs.Kept.{Adds}
-use Rattle.hc_heap.specs.States.{View, IsHeap}
-use Rattle.hc_descs.specs.Entries.{key_at, detail_at}
-use Rattle.hc_descs.specs.Copies.{HasEntriesOf}
-use Rattle.hc_tree.specs.Tree.{IsTree}
-pub use Rattle.hc_tree.specs.Walking.{OpensNoRoot}
-use Rattle.hc_table.specs.World.{Object}
-use Rattle.hc_slots.specs.Meaning.{Dictionary, object_shown}
-use Rattle.hc_objects.specs.Meaning.{kept_of}
-use Rattle.hc_slots.specs.Slots.{Owns, AreHandedOut}
-use Rattle.hc_objects.specs.State.{IsKeptSo}
+use Rattle.hc_table.specs.Attributes.{IsProper}
+use Rattle.hc_table.specs.Changes.{Did, Added, Wrote, Reconfigured, Removed, Linked, Locked, Restricted, IsThere, after, kind_at, name_at, reaches}
+use Rattle.hc_table.specs.Ranges.{IsHeldInRange}
+use Rattle.hc_table.specs.World.{World, object, place_of, props_at}
+use Rattle.hc_objects.specs.declared.change.Change.{Change}
+use Rattle.hc_objects.specs.declared.change.Change.TheVariants.{Add, Write, Put, Remove, Link, Lock, Restrict}
 
--- a root word after which only o may have become a prototype, and a root that was named stays
-pub record KeepsRoot (o : ℕ) (t : Trail) (p : ℕ) (r : RootWord) : Type 0 where
-  pub proto : p ≢ o → r.is_proto ≡ (root_in t p).is_proto
-  pub map : (m : ℕ) → (root_in t p).map ≡ Some m → r.map ≡ Some m
+-- what it does to an object
+abbrev pub did_of : ℕ → Change → Did
+did_of o (Add p) = Added o p
+did_of o (Write i held) = Wrote o i held
+did_of o (Put i p) = Reconfigured o i p
+did_of o (Remove i) = Removed o i
+did_of o (Link proto) = Linked o proto
+did_of o Lock = Locked o
+did_of o (Restrict frozen) = Restricted o frozen
 
--- a write of an operation on o: to o's own words, to slots that it owns or that are new, or one of the tree
--- that deprecates no map
-abbrev pub Touches : View → ℕ → Trail → Write → Type 0
-Touches old o t (ObjectMap p h) = p ≡ o
-Touches old o t (Store p w) = p ≡ o
-Touches old o t (Slot s w) = s < old.used.slots → Owns old.trail o s
-Touches old o t (Root p r) = KeepsRoot o t p r
-Touches old o t (Bits m b) = b.deprecated ≡ (bits_in t m).deprecated
-Touches old o t _ = Unit {0}
+-- the object that it names as prototype
+abbrev pub named_by : Change → Option ℕ
+named_by (Link proto) = proto
+named_by _ = None
 
--- an operation on o came from one view to another
-pub record Changed (old new : View) (o : ℕ) : Type 0 where
-  pub writes : Adds (Touches old o) old.trail new.trail
-  pub shape : new.shape ≡ old.shape
-  pub slots : old.used.slots ≤ new.used.slots
-  pub tree : IsTree new.trail
-  pub heap : IsHeap new
+-- an object gets a property that it lacks, and may get
+pub record MayAdd (w : World) (o : ℕ) (p : Prop) : Type 0 where
+  pub absent : place_of (props_at w o) p.name ≡ None
+  pub extensible : (object w o).extensible ≡ true
+  pub proper : IsProper p
 
--- an object's words and slots are as they were
-pub record WordsStay (old new : Trail) (p : ℕ) : Type 0 where
-  pub map : map_in new p ≡ map_in old p
-  pub store : store_in new p ≡ store_in old p
-  pub slots : (s : ℕ) → Owns old p s → slot_in new s ≡ slot_in old s
-  pub proto : (root_in new p).is_proto ≡ (root_in old p).is_proto
+-- an object may be changed so
+abbrev pub MayChange : World → ℕ → Change → Type 0
+MayChange w o (Add p) = MayAdd w o p
+MayChange w o (Write i held) = (kind_at (props_at w o) i ≡ Some (kind_of held)) × IsHeldInRange held
+MayChange w o (Put i p) = (name_at (props_at w o) i ≡ Some p.name) × IsProper p
+MayChange w o (Remove i) = i < length (props_at w o)
+MayChange w o (Link proto) = IsThere w proto × (reaches w proto o ≡ false)
+MayChange w o Lock = ⊤
+MayChange w o (Restrict frozen) = ⊤
 
--- the items kept are as they were, but for one object's
-pub record KeptBut (o : ℕ) (old new : List (Option Dictionary)) : Type 0 where
-  pub others : (p : ℕ) → p ≢ o → kept_of new p ≡ kept_of old p
-  pub there : (p : ℕ) → p ≢ o → p < length new → p < length old
+-- an object's prototype and properties are the same in both worlds
+pub record IsSameIn (w v : World) (o : ℕ) : Type 0 where
+  pub proto : (object v o).proto ≡ (object w o).proto
+  pub props : props_at v o ≡ props_at w o
 
--- after an operation on an object it is kept as its words say, its slots are those that it had, or new ones, and
--- where its map is private, no other object has it
-pub record IsWell (old new : View) (item : Option Dictionary) (o : ℕ) : Type 0 where
-  pub as_kept : IsKeptSo new.trail o item
-  pub store : AreHandedOut new.used.slots (store_in new.trail o)
-  pub owns : (s : ℕ) → Owns new.trail o s → s < old.used.slots → Owns old.trail o s
-  pub alone : (p m : ℕ) (g : GateWord) → p ≢ o → map_in new.trail o ≡ Some m → map_in old.trail p ≡ Some m → gate_in new.trail m ≡ Some g → g.is_private ≡ false
+-- a test is true exactly where a change leaves the object another prototype or other properties
+pub record Alters (w : World) (o : ℕ) (change : Change) (test : Bool) : Type 0 where
+  pub other : IsTrue test → IsSameIn w (after (did_of o change) w) o → ⊥
+  pub same : test ≡ false → IsSameIn w (after (did_of o change) w) o
 
--- a property of this key that holds so much
-abbrev pub property : Key → Held → Prop
-property key held = record { name = key.name; attrs = key.attrs; held = held }
-
--- the key of a property
-abbrev pub key_of : Prop → Key
-key_of p = record { name = p.name; kind = kind_of p.held; attrs = p.attrs }
-
--- a map has the entries of a map with n of them, and one more, with this key, whose field admits so much
-pub record IsGrown (t : Trail) (m c n : ℕ) (key : Key) (detail : Detail) : Type 0 where
-  pub gate : GateWord
-  pub is_open : gate_in t c ≡ Some gate
-  pub count : gate.entries ≡ n + 1
-  pub unlocked : gate.is_locked ≡ false
-  pub prototype : prototype_in t c ≡ prototype_in t m
-  pub entries : HasEntriesOf t c m n
-  pub last : key_at t c n ≡ Some key
-  pub admits : detail_at t c n ≡ Some detail
-
--- an operation on an object, which is kept so afterwards, made this of it
-pub record Stepped (old new : View) (item : Option Dictionary) (o : ℕ) (x : Object) : Type 0 where
-  pub changed : Changed old new o
-  pub well : IsWell old new item o
-  pub opens : OpensNoRoot old.trail new.trail
-  pub value : object_shown new.trail o item (map_in new.trail o) ≡ x
+-- the test of a slow object; of a fast one it is false
+pub record AltersSlow (w : World) (o : ℕ) (is_slow : Bool) (change : Change) (test : Bool) : Type 0 where
+  pub slow : is_slow ≡ true → Alters w o change test
+  pub fast : is_slow ≡ false → test ≡ false

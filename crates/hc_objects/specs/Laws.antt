@@ -1,219 +1,138 @@
 -- The laws of what was done: nothing before it and after it changes nothing, and the tables after it are those that it says.
-use Rattle.std.proofs.Common.{◌≡◌, ℕ, ◌≤◌, List, [], ◌∷◌, Option, refl, sym, ap, ◌∙◌, subst, arith, Some, None}
+use Rattle.std.proofs.Common.{◌≡◌, ℕ, ◌≤◌, List, [], Option, Some, None, refl, ap, ◌∙◌, subst, sym, arith, inl, inr}
+use Rattle.std.specs.Prelude.{◌⊎◌, IsSomeAnd, IsTrue}
 use Rattle.hc_board.specs.Trail.{Access}
-use Rattle.hc_value.specs.declared.reply.Cause.{Cause}
-use Rattle.hc_value.specs.declared.reply.Cause.TheVariants.{Deleted, Many, Space, Reconfigured as Changed}
-use Rattle.hc_table.specs.World.{World}
+use Rattle.hc_layout.specs.declared.words.CellWord.{CellWord}
+use Rattle.hc_heap.specs.Readings.{validity_in}
 use Rattle.hc_table.specs.Changes.{Did, Nothing, Moved, Created, Added, Wrote, Reconfigured, Removed, Linked, Locked, Restricted, after}
-use Rattle.hc_objects.specs.State.{ObjectsState}
-use Rattle.hc_objects.specs.Modes.{Modes, IsOne, IsWithin, need_of}
-use Rattle.hc_objects.specs.Came.{IsStill, Steps, Move, Marked, Became, Left, IsMarked, IsBecome, HasLeft, MayLeave, IsMove, AreMoves, Moves, Made, Effect, Came, moves_before, moves_to_link, world_of}
+use Rattle.hc_modes.specs.Laws.{with_loads, still-refl, still-on, came-before as bare-before, came-world as bare-world, came-shape as bare-shape}
+use Rattle.hc_modes.specs.State.{ObjectsState}
+use Rattle.hc_modes.specs.Validity.{CellFollows, CellsFollow, ChangesOn, OnlyCells, StaysPut}
+use Rattle.hc_modes.specs.Came.{Came as CameBare}
+use Rattle.hc_objects.specs.Came.{Came, Followed, IsStill, Moves, world_of}
 
--- the state after so many loads
-abbrev pub with_loads : {P : Type 0} → ObjectsState P → ℕ → ObjectsState P
-with_loads a n = record a { heap = record a.heap { desk = record a.heap.desk { loads = n } } }
+-- loads, and then something
+
+put-from : {P : Type 0} (a c : ObjectsState P) (n q : ℕ) → StaysPut (with_loads a n) c q → StaysPut a c q
+put-from a c n q h = record { map = h.map; proto = h.proto; props = h.props }
+
+put-into : {P : Type 0} (a c : ObjectsState P) (n q : ℕ) → StaysPut a c q → StaysPut (with_loads a n) c q
+put-into a c n q h = record { map = h.map; proto = h.proto; props = h.props }
+
+on-from : {P : Type 0} (a c : ObjectsState P) (n p : ℕ) → ChangesOn (with_loads a n) c p → ChangesOn a c p
+on-from a c n p h = record { object = h.object; through = h.through; changed = λ put. h.changed (put-into a c n h.object put) }
+
+on-into : {P : Type 0} (a c : ObjectsState P) (n p : ℕ) → ChangesOn a c p → ChangesOn (with_loads a n) c p
+on-into a c n p h = record { object = h.object; through = h.through; changed = λ put. h.changed (put-from a c n h.object put) }
+
+follows-from : {P : Type 0} (a c : ObjectsState P) (n : ℕ) (was now : CellWord) → CellFollows (with_loads a n) c was now → CellFollows a c was now
+follows-from a c n was now h = record {
+  object = h.object;
+  invalid = (λ is. from (h.invalid.0 is), λ any. h.invalid.1 (into any));
+  put = λ valid q through. put-from a c n q (h.put valid q through);
+}
+  where
+    from : IsTrue was.invalid ⊎ ChangesOn (with_loads a n) c was.object → IsTrue was.invalid ⊎ ChangesOn a c was.object
+    from (inl is) = inl is
+    from (inr on) = inr (on-from a c n was.object on)
+
+    into : IsTrue was.invalid ⊎ ChangesOn a c was.object → IsTrue was.invalid ⊎ ChangesOn (with_loads a n) c was.object
+    into (inl is) = inl is
+    into (inr on) = inr (on-into a c n was.object on)
+
+weaker : (v : Option CellWord) (A B : CellWord → Type 0) → ((w : CellWord) → A w → B w) → IsSomeAnd v A → IsSomeAnd v B
+weaker (Some w) A B f h = f w h
+weaker None A B f h = absurd h
+
+cells-from : {P : Type 0} (a c : ObjectsState P) (n : ℕ) → CellsFollow (with_loads a n) c → CellsFollow a c
+cells-from a c n h = record {
+  cells = λ k was is. weaker (validity_in c.heap.view.trail k) (λ now. CellFollows (with_loads a n) c was now) (λ now. CellFollows a c was now) (λ now x. follows-from a c n was now x) (h.cells k was is);
+  none = h.none;
+  named = h.named;
+  used = h.used;
+}
+
+-- something, and then loads
+
+put-upto : {P : Type 0} (a b : ObjectsState P) (n q : ℕ) → StaysPut a b q → StaysPut a (with_loads b n) q
+put-upto a b n q h = record { map = h.map; proto = h.proto; props = h.props }
+
+put-short : {P : Type 0} (a b : ObjectsState P) (n q : ℕ) → StaysPut a (with_loads b n) q → StaysPut a b q
+put-short a b n q h = record { map = h.map; proto = h.proto; props = h.props }
+
+follows-upto : {P : Type 0} (a b : ObjectsState P) (n : ℕ) (was now : CellWord) → CellFollows a b was now → CellFollows a (with_loads b n) was now
+follows-upto a b n was now h = record {
+  object = h.object;
+  invalid = (λ is. upto (h.invalid.0 is), λ any. h.invalid.1 (short any));
+  put = λ valid q through. put-upto a b n q (h.put valid q through);
+}
+  where
+    upto : IsTrue was.invalid ⊎ ChangesOn a b was.object → IsTrue was.invalid ⊎ ChangesOn a (with_loads b n) was.object
+    upto (inl is) = inl is
+    upto (inr on) = inr (record { object = on.object; through = on.through; changed = λ put. on.changed (put-short a b n on.object put) })
+
+    short : IsTrue was.invalid ⊎ ChangesOn a (with_loads b n) was.object → IsTrue was.invalid ⊎ ChangesOn a b was.object
+    short (inl is) = inl is
+    short (inr on) = inr (record { object = on.object; through = on.through; changed = λ put. on.changed (put-upto a b n on.object put) })
+
+cells-upto : {P : Type 0} (a b : ObjectsState P) (n : ℕ) → CellsFollow a b → CellsFollow a (with_loads b n)
+cells-upto a b n h = record {
+  cells = λ k was is. weaker (validity_in b.heap.view.trail k) (λ now. CellFollows a b was now) (λ now. CellFollows a (with_loads b n) was now) (λ now x. follows-upto a b n was now x) (h.cells k was is);
+  none = h.none;
+  named = h.named;
+  used = h.used;
+}
 
 module _ {P : Type 0} (went : P → List Access → List Access → P → Type 0) where
-  -- loads, and then something
-  steps-from : (a c : ObjectsState P) (did : Did) (n : ℕ) → a.heap.desk.loads ≤ n → Steps went (with_loads a n) did c → Steps went a did c
-  steps-from a c did n le h = record {
-    world = h.world;
-    shape = h.shape;
-    goes = record { board = h.goes.board; trail = h.goes.trail; loads = omega (arith, le, h.goes.loads); met = h.goes.met };
-    went = h.went;
-    keeps = h.keeps;
-  }
-
-  one-from : (a c : ObjectsState P) (o : ℕ) (given : Option Cause) (room : Type 0) (n : ℕ) → IsOne (with_loads a n) o given room c → IsOne a o given room c
-  one-from a c o given room n h = record { this = h.this; others = h.others }
-
-  modes-from : (a c : ObjectsState P) (did : Did) (n : ℕ) → Modes (with_loads a n) did c → Modes a did c
-  modes-from a c Nothing n h = h
-  modes-from a c Moved n h = h
-  modes-from a c (Created proto) n h = record { this = h.this; others = h.others }
-  modes-from a c (Added o p) n h = record { this = h.this; others = h.others }
-  modes-from a c (Wrote o i held) n h = h
-  modes-from a c (Reconfigured o i p) n h = record { same = h.same; other = λ ne. one-from a c o _ _ n (h.other ne); none = h.none }
-  modes-from a c (Removed o i) n h = record { this = h.this; others = h.others }
-  modes-from a c (Linked o proto) n h = record { this = h.this; others = h.others }
-  modes-from a c (Locked o) n h = record { this = h.this; others = h.others }
-  modes-from a c (Restricted o frozen) n h = record { this = h.this; others = h.others }
-
-  needs-from : (a c : ObjectsState P) (did : Did) (n : ℕ) → need_of (with_loads a n) did ≡ need_of a did
-  needs-from a c Nothing n = refl
-  needs-from a c Moved n = refl
-  needs-from a c (Created proto) n = refl
-  needs-from a c (Added o p) n = refl
-  needs-from a c (Wrote o i held) n = refl
-  needs-from a c (Reconfigured o i p) n = refl
-  needs-from a c (Removed o i) n = refl
-  needs-from a c (Linked o proto) n = refl
-  needs-from a c (Locked o) n = refl
-  needs-from a c (Restricted o frozen) n = refl
-
-  made-from : (a c : ObjectsState P) (did : Did) (n : ℕ) → a.heap.desk.loads ≤ n → Made went (with_loads a n) did c → Made went a did c
-  made-from a c did n le h = record {
-    steps = steps-from a c did n le h.steps;
-    modes = modes-from a c did n h.modes;
-    needs = subst (λ k. IsWithin k a.heap.view.used c.heap.view.used) (needs-from a c did n) h.needs;
-    protos = h.protos;
-    marks = h.marks;
-    details = h.details;
-  }
-
-  become-from : (a c : ObjectsState P) (p n : ℕ) → a.heap.desk.loads ≤ n → IsBecome went (with_loads a n) p c → IsBecome went a p c
-  become-from a c p n le h = record {
-    steps = steps-from a c Moved n le h.steps;
-    mode = h.mode;
-    used = h.used;
-    proto = h.proto;
-    protos = h.protos;
-    others = h.others;
-    how = record { marks = h.how.marks; own = h.how.own; owns = h.how.owns; details = h.how.details };
-    lawful = h.lawful;
-    lone = h.lone;
-  }
-
-  why-from : (a : ObjectsState P) (o : ℕ) (cause : Cause) (n : ℕ) → MayLeave (with_loads a n) o cause → MayLeave a o cause
-  why-from a o Many n h = h
-  why-from a o Space n h = h
-  why-from a o Deleted n h = h
-  why-from a o Changed n h = h
-
-  left-from : (a c : ObjectsState P) (o : ℕ) (cause : Cause) (n : ℕ) → a.heap.desk.loads ≤ n → HasLeft went (with_loads a n) o cause c → HasLeft went a o cause c
-  left-from a c o cause n le h = record {
-    steps = steps-from a c Moved n le h.steps;
-    fast = h.fast;
-    why = why-from a o cause n h.why;
-    slow = h.slow;
-    used = h.used;
-    protos = h.protos;
-    others = h.others;
-    lawful = h.lawful;
-    marks = h.marks;
-    details = h.details;
-  }
-
-  marked-from : (a c : ObjectsState P) (o n : ℕ) → a.heap.desk.loads ≤ n → IsMarked went (with_loads a n) o c → IsMarked went a o c
-  marked-from a c o n le h = record {
-    steps = steps-from a c Moved n le h.steps;
-    map = h.map;
-    has = h.has;
-    trail = h.trail;
+  only-upto : (a b : ObjectsState P) (n : ℕ) → b.heap.desk.loads ≤ n → OnlyCells went a b → OnlyCells went a (with_loads b n)
+  only-upto a b n le h = record {
+    steps = record {
+      world = h.steps.world;
+      shape = h.steps.shape;
+      goes = record { board = h.steps.goes.board; trail = h.steps.goes.trail; loads = omega (arith, le, h.steps.goes.loads); met = h.steps.goes.met };
+      went = h.steps.went;
+      keeps = h.steps.keeps;
+    };
+    writes = h.writes;
     used = h.used;
     kept = h.kept;
     null = h.null;
-    roots = h.roots;
-    maps = h.maps;
-    lawful = h.lawful;
   }
 
-  move-from : (a c : ObjectsState P) (move : Move) (n : ℕ) → a.heap.desk.loads ≤ n → IsMove went (with_loads a n) move c → IsMove went a move c
-  move-from a c (Marked o) n le h = marked-from a c o n le h
-  move-from a c (Became p) n le h = become-from a c p n le h
-  move-from a c (Left o cause) n le h = left-from a c o cause n le h
+  pub only-after : (a b c : ObjectsState P) → OnlyCells went a b → IsStill b c → OnlyCells went a c
+  only-after a b c h still = subst (λ (s : ObjectsState P). OnlyCells went a s) (sym still.is) (only-upto a b c.heap.desk.loads still.loads h)
 
-  pub move-before : (a b c : ObjectsState P) (move : Move) → IsStill a b → IsMove went b move c → IsMove went a move c
-  move-before a b c move still h = move-from a c move b.heap.desk.loads still.loads (subst (λ (s : ObjectsState P). IsMove went s move c) still.is h)
+  pub cells-before : (a b c : ObjectsState P) → IsStill a b → CellsFollow b c → CellsFollow a c
+  cells-before a b c still h = cells-from a c b.heap.desk.loads (subst (λ (s : ObjectsState P). CellsFollow s c) still.is h)
 
-  pub steps-before : (a b c : ObjectsState P) (did : Did) → IsStill a b → Steps went b did c → Steps went a did c
-  steps-before a b c did still h = steps-from a c did b.heap.desk.loads still.loads (subst (λ (s : ObjectsState P). Steps went s did c) still.is h)
+  pub cells-after : (a b c : ObjectsState P) → CellsFollow a b → IsStill b c → CellsFollow a c
+  cells-after a b c h still = subst (λ (s : ObjectsState P). CellsFollow a s) (sym still.is) (cells-upto a b c.heap.desk.loads h)
 
-  pub made-before : (a b c : ObjectsState P) (did : Did) → IsStill a b → Made went b did c → Made went a did c
-  made-before a b c did still h = made-from a c did b.heap.desk.loads still.loads (subst (λ (s : ObjectsState P). Made went s did c) still.is h)
-
-  -- something, and then loads
-  steps-upto : (a b : ObjectsState P) (did : Did) (n : ℕ) → b.heap.desk.loads ≤ n → Steps went a did b → Steps went a did (with_loads b n)
-  steps-upto a b did n le h = record {
-    world = h.world;
-    shape = h.shape;
-    goes = record { board = h.goes.board; trail = h.goes.trail; loads = omega (arith, le, h.goes.loads); met = h.goes.met };
-    went = h.went;
-    keeps = h.keeps;
+  followed-before : (a b c : ObjectsState P) (did : Did) → IsStill a b → Followed went b did c → Followed went a did c
+  followed-before a b c did x y = record {
+    bare = y.bare;
+    came = bare-before went a b y.bare did x y.came;
+    sound = y.sound;
+    only = y.only;
+    cells = cells-before a b c x y.cells;
   }
 
-  one-upto : (a b : ObjectsState P) (o : ℕ) (given : Option Cause) (room : Type 0) (n : ℕ) → IsOne a o given room b → IsOne a o given room (with_loads b n)
-  one-upto a b o given room n h = record { this = h.this; others = h.others }
-
-  modes-upto : (a b : ObjectsState P) (did : Did) (n : ℕ) → Modes a did b → Modes a did (with_loads b n)
-  modes-upto a b Nothing n h = h
-  modes-upto a b Moved n h = h
-  modes-upto a b (Created proto) n h = record { this = h.this; others = h.others }
-  modes-upto a b (Added o p) n h = record { this = h.this; others = h.others }
-  modes-upto a b (Wrote o i held) n h = h
-  modes-upto a b (Reconfigured o i p) n h = record { same = h.same; other = λ ne. one-upto a b o _ _ n (h.other ne); none = h.none }
-  modes-upto a b (Removed o i) n h = record { this = h.this; others = h.others }
-  modes-upto a b (Linked o proto) n h = record { this = h.this; others = h.others }
-  modes-upto a b (Locked o) n h = record { this = h.this; others = h.others }
-  modes-upto a b (Restricted o frozen) n h = record { this = h.this; others = h.others }
-
-  made-upto : (a b : ObjectsState P) (did : Did) (n : ℕ) → b.heap.desk.loads ≤ n → Made went a did b → Made went a did (with_loads b n)
-  made-upto a b did n le h = record {
-    steps = steps-upto a b did n le h.steps;
-    modes = modes-upto a b did n h.modes;
-    needs = h.needs;
-    protos = h.protos;
-    marks = h.marks;
-    details = h.details;
+  followed-after : (a b c : ObjectsState P) (did : Did) → Followed went a did b → IsStill b c → Followed went a did c
+  followed-after a b c did x y = record {
+    bare = x.bare;
+    came = x.came;
+    sound = x.sound;
+    only = only-after x.bare b c x.only y;
+    cells = cells-after a b c x.cells y;
   }
 
-  pub made-after : (a b c : ObjectsState P) (did : Did) → Made went a did b → IsStill b c → Made went a did c
-  made-after a b c did h still = subst (λ (s : ObjectsState P). Made went a did s) (sym still.is) (made-upto a b did c.heap.desk.loads still.loads h)
-
--- nothing, from a state to itself and one after the other
-pub still-refl : {P : Type 0} (a : ObjectsState P) → IsStill a a
-still-refl {P} a = record { is = refl; loads = omega arith }
-
-pub still-on : {P : Type 0} (a b c : ObjectsState P) → IsStill a b → IsStill b c → IsStill a c
-still-on {P} a b c x y = record {
-  is = y.is ∙ ap (λ (s : ObjectsState P). with_loads s c.heap.desk.loads) x.is;
-  loads = omega (arith, x.loads, y.loads);
-}
-
--- The laws of what was done
-module _ {P : Type 0} (went : P → List Access → List Access → P → Type 0) where
-  pub moves-before : (a b c : ObjectsState P) (moves : List Move) → IsStill a b → AreMoves went b moves c → AreMoves went a moves c
-  moves-before a b c [] x y = still-on a b c x y
-  moves-before a b c (move ∷ moves) x y = (y.0, move-before went a b y.0 move x y.1, y.2)
-
-  pub moves-after : (a b c : ObjectsState P) (moves : List Move) → AreMoves went a moves b → IsStill b c → AreMoves went a moves c
-  moves-after a b c [] x y = still-on a b c x y
-  moves-after a b c (move ∷ moves) x y = (x.0, x.1, moves-after x.0 b c moves x.2 y)
-
-  pub moved-before : (a b c : ObjectsState P) → IsStill a b → Moves went b c → Moves went a c
-  moved-before a b c x y = record { moves = y.moves; few = y.few; ends = y.ends; are = moves-before a b c y.moves x y.are }
+  moved-before : (a b c : ObjectsState P) → IsStill a b → Moves went b c → Moves went a c
+  moved-before a b c x (inl still) = inl (still-on a b c x still)
+  moved-before a b c x (inr h) = inr (followed-before a b c Moved x h)
 
   moved-after : (a b c : ObjectsState P) → Moves went a b → IsStill b c → Moves went a c
-  moved-after a b c x y = record { moves = x.moves; few = x.few; ends = x.ends; are = moves-after a b c x.moves x.are y }
-
-  link-same : (a : ObjectsState P) (o : ℕ) (proto : Option ℕ) (n : ℕ) → moves_to_link (with_loads a n) o proto ≡ moves_to_link a o proto
-  link-same a o (Some p) n = refl
-  link-same a o None n = refl
-
-  before-same : (a : ObjectsState P) (did : Did) (n : ℕ) → moves_before (with_loads a n) did ≡ moves_before a did
-  before-same a Nothing n = refl
-  before-same a Moved n = refl
-  before-same a (Created proto) n = refl
-  before-same a (Added o p) n = refl
-  before-same a (Wrote o i held) n = refl
-  before-same a (Reconfigured o i p) n = refl
-  before-same a (Removed o i) n = refl
-  before-same a (Linked o proto) n = link-same a o proto n
-  before-same a (Locked o) n = refl
-  before-same a (Restricted o frozen) n = refl
-
-  pub before-still : (a b : ObjectsState P) (did : Did) → IsStill a b → moves_before b did ≡ moves_before a did
-  before-still a b did still = ap (λ (s : ObjectsState P). moves_before s did) still.is ∙ before-same a did b.heap.desk.loads
-
-  effect-before : (a b c : ObjectsState P) (did : Did) → IsStill a b → Effect went b did c → Effect went a did c
-  effect-before a b c did x y = record {
-    mid = y.mid;
-    moves = subst (λ (moves : List Move). AreMoves went a moves y.mid) (before-still a b did x) (moves-before a b y.mid (moves_before b did) x y.moves);
-    own = y.own;
-  }
-
-  effect-after : (a b c : ObjectsState P) (did : Did) → Effect went a did b → IsStill b c → Effect went a did c
-  effect-after a b c did x y = record { mid = x.mid; moves = x.moves; own = made-after went x.mid b c did x.own y }
+  moved-after a b c (inl still) y = inl (still-on a b c still y)
+  moved-after a b c (inr h) y = inr (followed-after a b c Moved h y)
 
   pub came-refl : (a : ObjectsState P) → Came went a Nothing a
   came-refl a = still-refl a
@@ -221,72 +140,53 @@ module _ {P : Type 0} (went : P → List Access → List Access → P → Type 0
   pub came-before : (a b c : ObjectsState P) (did : Did) → Came went a Nothing b → Came went b did c → Came went a did c
   came-before a b c Nothing x y = still-on a b c x y
   came-before a b c Moved x y = moved-before a b c x y
-  came-before a b c (Created proto) x y = effect-before a b c (Created proto) x y
-  came-before a b c (Added o p) x y = effect-before a b c (Added o p) x y
-  came-before a b c (Wrote o i held) x y = effect-before a b c (Wrote o i held) x y
-  came-before a b c (Reconfigured o i p) x y = effect-before a b c (Reconfigured o i p) x y
-  came-before a b c (Removed o i) x y = effect-before a b c (Removed o i) x y
-  came-before a b c (Linked o proto) x y = effect-before a b c (Linked o proto) x y
-  came-before a b c (Locked o) x y = effect-before a b c (Locked o) x y
-  came-before a b c (Restricted o frozen) x y = effect-before a b c (Restricted o frozen) x y
+  came-before a b c (Created proto) x y = followed-before a b c (Created proto) x y
+  came-before a b c (Added o p) x y = followed-before a b c (Added o p) x y
+  came-before a b c (Wrote o i held) x y = followed-before a b c (Wrote o i held) x y
+  came-before a b c (Reconfigured o i p) x y = followed-before a b c (Reconfigured o i p) x y
+  came-before a b c (Removed o i) x y = followed-before a b c (Removed o i) x y
+  came-before a b c (Linked o proto) x y = followed-before a b c (Linked o proto) x y
+  came-before a b c (Locked o) x y = followed-before a b c (Locked o) x y
+  came-before a b c (Restricted o frozen) x y = followed-before a b c (Restricted o frozen) x y
 
   pub came-after : (a b c : ObjectsState P) (did : Did) → Came went a did b → Came went b Nothing c → Came went a did c
   came-after a b c Nothing x y = still-on a b c x y
   came-after a b c Moved x y = moved-after a b c x y
-  came-after a b c (Created proto) x y = effect-after a b c (Created proto) x y
-  came-after a b c (Added o p) x y = effect-after a b c (Added o p) x y
-  came-after a b c (Wrote o i held) x y = effect-after a b c (Wrote o i held) x y
-  came-after a b c (Reconfigured o i p) x y = effect-after a b c (Reconfigured o i p) x y
-  came-after a b c (Removed o i) x y = effect-after a b c (Removed o i) x y
-  came-after a b c (Linked o proto) x y = effect-after a b c (Linked o proto) x y
-  came-after a b c (Locked o) x y = effect-after a b c (Locked o) x y
-  came-after a b c (Restricted o frozen) x y = effect-after a b c (Restricted o frozen) x y
+  came-after a b c (Created proto) x y = followed-after a b c (Created proto) x y
+  came-after a b c (Added o p) x y = followed-after a b c (Added o p) x y
+  came-after a b c (Wrote o i held) x y = followed-after a b c (Wrote o i held) x y
+  came-after a b c (Reconfigured o i p) x y = followed-after a b c (Reconfigured o i p) x y
+  came-after a b c (Removed o i) x y = followed-after a b c (Removed o i) x y
+  came-after a b c (Linked o proto) x y = followed-after a b c (Linked o proto) x y
+  came-after a b c (Locked o) x y = followed-after a b c (Locked o) x y
+  came-after a b c (Restricted o frozen) x y = followed-after a b c (Restricted o frozen) x y
 
-  -- moves leave the tables, and no operation changes the shape
-  move-world : (a b : ObjectsState P) (move : Move) → IsMove went a move b → world_of b ≡ world_of a
-  move-world a b (Marked o) h = h.steps.world
-  move-world a b (Became p) h = h.steps.world
-  move-world a b (Left o cause) h = h.steps.world
+  pub followed-world : (a b : ObjectsState P) (did : Did) → Followed went a did b → world_of b ≡ after did (world_of a)
+  followed-world a b did h = h.only.steps.world ∙ bare-world went a h.bare did h.came
 
-  pub moves-world : (a b : ObjectsState P) (moves : List Move) → AreMoves went a moves b → world_of b ≡ world_of a
-  moves-world a b [] h = ap (λ (s : ObjectsState P). world_of s) h.is
-  moves-world a b (move ∷ moves) h = moves-world h.0 b moves h.2 ∙ move-world a h.0 move h.1
+  pub followed-shape : (a b : ObjectsState P) (did : Did) → Followed went a did b → b.heap.view.shape ≡ a.heap.view.shape
+  followed-shape a b did h = h.only.steps.shape ∙ bare-shape went a h.bare did h.came
 
-  effect-world : (a b : ObjectsState P) (did : Did) → Effect went a did b → world_of b ≡ after did (world_of a)
-  effect-world a b did h = h.own.steps.world ∙ ap (λ (w : World). after did w) (moves-world a h.mid (moves_before a did) h.moves)
+  -- no move
+  pub no-moves : (a b : ObjectsState P) → IsStill a b → CameBare went a Moved b
+  no-moves a b still = record { moves = []; few = omega arith; ends = tt; are = still }
+
+  -- what was done is nothing, or the cells follow
+  pub either-way : (C : Type 0) (a b : ObjectsState P) (did : Did) → (IsStill a b → CameBare went a did b → C) → (Followed went a did b → C) → Came went a did b → C
+  either-way C a b Nothing still followed h = still h h
+  either-way C a b Moved still followed (inl h) = still h (no-moves a b h)
+  either-way C a b Moved still followed (inr h) = followed h
+  either-way C a b (Created proto) still followed h = followed h
+  either-way C a b (Added o p) still followed h = followed h
+  either-way C a b (Wrote o i held) still followed h = followed h
+  either-way C a b (Reconfigured o i p) still followed h = followed h
+  either-way C a b (Removed o i) still followed h = followed h
+  either-way C a b (Linked o proto) still followed h = followed h
+  either-way C a b (Locked o) still followed h = followed h
+  either-way C a b (Restricted o frozen) still followed h = followed h
 
   pub came-world : (a b : ObjectsState P) (did : Did) → Came went a did b → world_of b ≡ after did (world_of a)
-  came-world a b Nothing h = ap (λ (s : ObjectsState P). world_of s) h.is
-  came-world a b Moved h = moves-world a b h.moves h.are
-  came-world a b (Created proto) h = effect-world a b (Created proto) h
-  came-world a b (Added o p) h = effect-world a b (Added o p) h
-  came-world a b (Wrote o i held) h = effect-world a b (Wrote o i held) h
-  came-world a b (Reconfigured o i p) h = effect-world a b (Reconfigured o i p) h
-  came-world a b (Removed o i) h = effect-world a b (Removed o i) h
-  came-world a b (Linked o proto) h = effect-world a b (Linked o proto) h
-  came-world a b (Locked o) h = effect-world a b (Locked o) h
-  came-world a b (Restricted o frozen) h = effect-world a b (Restricted o frozen) h
-
-  pub move-shape : (a b : ObjectsState P) (move : Move) → IsMove went a move b → b.heap.view.shape ≡ a.heap.view.shape
-  move-shape a b (Marked o) h = h.steps.shape
-  move-shape a b (Became p) h = h.steps.shape
-  move-shape a b (Left o cause) h = h.steps.shape
-
-  pub moves-shape : (a b : ObjectsState P) (moves : List Move) → AreMoves went a moves b → b.heap.view.shape ≡ a.heap.view.shape
-  moves-shape a b [] h = ap (λ (s : ObjectsState P). s.heap.view.shape) h.is
-  moves-shape a b (move ∷ moves) h = moves-shape h.0 b moves h.2 ∙ move-shape a h.0 move h.1
-
-  effect-shape : (a b : ObjectsState P) (did : Did) → Effect went a did b → b.heap.view.shape ≡ a.heap.view.shape
-  effect-shape a b did h = h.own.steps.shape ∙ moves-shape a h.mid (moves_before a did) h.moves
+  came-world a b did h = either-way (world_of b ≡ after did (world_of a)) a b did (λ still came. bare-world went a b did came) (λ followed. followed-world a b did followed) h
 
   pub came-shape : (a b : ObjectsState P) (did : Did) → Came went a did b → b.heap.view.shape ≡ a.heap.view.shape
-  came-shape a b Nothing h = ap (λ (s : ObjectsState P). s.heap.view.shape) h.is
-  came-shape a b Moved h = moves-shape a b h.moves h.are
-  came-shape a b (Created proto) h = effect-shape a b (Created proto) h
-  came-shape a b (Added o p) h = effect-shape a b (Added o p) h
-  came-shape a b (Wrote o i held) h = effect-shape a b (Wrote o i held) h
-  came-shape a b (Reconfigured o i p) h = effect-shape a b (Reconfigured o i p) h
-  came-shape a b (Removed o i) h = effect-shape a b (Removed o i) h
-  came-shape a b (Linked o proto) h = effect-shape a b (Linked o proto) h
-  came-shape a b (Locked o) h = effect-shape a b (Locked o) h
-  came-shape a b (Restricted o frozen) h = effect-shape a b (Restricted o frozen) h
+  came-shape a b did h = either-way (b.heap.view.shape ≡ a.heap.view.shape) a b did (λ still came. bare-shape went a b did came) (λ followed. followed-shape a b did followed) h

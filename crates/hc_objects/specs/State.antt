@@ -1,45 +1,14 @@
--- What contracts see of objects, and what holds of them at every moment.
-use Rattle.std.specs.Prelude.{◌≡◌, ℕ, ◌<◌, false, IsTrue, Option, Some, None, List, length}
-use Rattle.hc_layout.specs.declared.words.GateWord.{GateWord}
-use Rattle.hc_heap.specs.Writes.{Trail}
-use Rattle.hc_heap.specs.Readings.{gate_in, bits_in, map_in, store_in}
-use Rattle.hc_heap.specs.States.{View, HeapState, IsHeap}
-use Rattle.hc_table.specs.Kept.{Kept, IsKept}
-use Rattle.hc_tree.specs.Tree.{IsTree}
-pub use Rattle.hc_tree.specs.Walking.{AreRoots}
-use Rattle.hc_slots.specs.Meaning.{Dictionary}
-use Rattle.hc_objects.specs.Meaning.{kept_of, world}
-use Rattle.hc_slots.specs.Fast.{HasMap}
-use Rattle.hc_slots.specs.Slots.{Owns, AreHandedOut}
+-- What holds at every moment of objects whose validity cells follow their changes.
+use Rattle.std.specs.Prelude.{◌≡◌, ℕ, Bool, Option, List, length}
+use Rattle.hc_cells.specs.Cells.{AreCells}
+use Rattle.hc_cells.specs.Watched.{AreWatched}
+use Rattle.hc_modes.specs.State.{ObjectsState}
+use Rattle.hc_modes.specs.Validity.{protos_of}
 
--- objects: their heap, what is kept of slow ones, and the root of the maps that have no prototype
-pub record ObjectsState (P : Type 0) : Type 0 where
-  pub heap : HeapState P
-  pub kept : List (Option Dictionary)
-  pub of_null : Option ℕ
-
--- an object is kept as its words say: a slow one has no map, and a fast one has one that fits
-abbrev pub IsKeptSo : Trail → ℕ → Option Dictionary → Type 0
-IsKeptSo t o (Some d) = map_in t o ≡ None
-IsKeptSo t o None = HasMap t o
-
--- no two objects have one private map
-abbrev pub AreAlone : Trail → ℕ → Type 0
-AreAlone t n = (a b m : ℕ) (g : GateWord) → a < n → b < n → map_in t a ≡ Some m → map_in t b ≡ Some m → gate_in t m ≡ Some g → IsTrue g.is_private → a ≡ b
-
--- the objects as tables see them
-abbrev pub tables_of : View → List (Option Dictionary) → Kept
-tables_of v kept = record { world = world v.trail kept; limit = v.shape.objects }
-
--- what holds of objects at every moment; no map is deprecated so far
-pub record IsObjects (v : View) (kept : List (Option Dictionary)) (of_null : Option ℕ) : Type 0 where
-  pub heap : IsHeap v
-  pub tree : IsTree v.trail
-  pub live : (m : ℕ) → (bits_in v.trail m).deprecated ≡ false
-  pub roots : AreRoots v.trail of_null
-  pub items : length kept ≡ v.used.objects
-  pub each : (o : ℕ) → o < length kept → IsKeptSo v.trail o (kept_of kept o)
-  pub stores : (o : ℕ) → AreHandedOut v.used.slots (store_in v.trail o)
-  pub owners : (o p s : ℕ) → Owns v.trail o s → Owns v.trail p s → o ≡ p
-  pub alone : AreAlone v.trail (length kept)
-  pub sound : IsKept (tables_of v kept)
+-- the cells are sound, the list has for each object that is slow its prototype, and each object is marked that the chain of a valid
+-- cell goes through
+pub record IsWatching {P : Type 0} (s : ObjectsState P) (protos : List (Option ℕ)) (marks : List Bool) : Type 0 where
+  pub cells : AreCells s.heap.view.trail s.heap.view.used
+  pub told : protos ≡ protos_of s
+  pub watched : AreWatched s.heap.view.trail protos marks
+  pub size : length marks ≡ s.heap.view.shape.objects

@@ -1,40 +1,37 @@
 //! What follows of what was done, for proofs above. The functions do nothing: their contracts are laws.
-ghost use Rattle.std.specs.Prelude.{ℕ, ◌≡◌, ◌+◌, []};
-ghost use Rattle.hc_board.specs.States.{WriterState};
-ghost use Rattle.hc_heap.specs.Kept.{GoesOn};
-ghost use Rattle.hc_heap.specs.States.{View, IsHeap, IsDesk, Goes};
+ghost use Rattle.std.specs.Prelude.{ℕ, ◌≡◌, ◌+◌, [], Some, IsSomeAnd};
+ghost use Rattle.hc_layout.specs.declared.words.CellWord.{CellWord};
+ghost use Rattle.hc_heap.specs.Readings.{map_in, validity_in};
 ghost use Rattle.hc_table.specs.Changes.{Did};
-ghost use Rattle.hc_objects.specs.Admitting.{FactsStay, IsHonest};
-ghost use Rattle.hc_objects.specs.Came.{Came};
-ghost use Rattle.hc_objects.specs.Rest.{AreCalm};
-ghost use Rattle.hc_objects.specs.Spent.{IsSpent};
-ghost use Rattle.hc_objects.specs.State.{ObjectsState, IsObjects};
+ghost use Rattle.hc_modes.specs.Admitting.{FactsStay, IsHonest};
+ghost use Rattle.hc_modes.specs.Rest.{AreCalm};
+ghost use Rattle.hc_modes.specs.Spent.{IsSpent};
+ghost use Rattle.hc_modes.specs.State.{ObjectsState, IsObjects};
+ghost use Rattle.hc_modes.specs.Validity.{OnlyCells};
+ghost use Rattle.hc_objects.specs.Came.{Came, SaysStill, world_of};
 
 use hc_facts::constants_stay_on;
-use hc_heap::{
-    Pace, gates_are_open, positions_are_stores, positions_go_on, stores_are_writes,
-    unused_says_nothing,
-};
-
-/// Where the board's stores go on, so do the writes that are read from them, and each of these is lawful.
-pub fn writes_go_on()
-    ensures law { (v w : View) (d e : WriterState) → IsDesk v d → IsDesk w e → IsHeap w → w.shape ≡ v.shape → Goes d e
-        → GoesOn w.shape v.trail w.trail }
-{
-    positions_are_stores();
-    positions_go_on();
-    stores_are_writes();
-}
+use hc_heap::Pace;
 
 /// An operation, and the moves that want of memory leaves, hand out no more than an operation may need, and leave an object
-/// slow for want of room only where some region is nearly full; so do several, one after the other.
+/// slow for want of room only where some region is nearly full; so do several, one after the other. No cell is handed out.
 pub fn operations_spend_little<P: Pace>()
     ensures one { (a b : ObjectsState P) (did : Did) → IsObjects a.heap.view a.kept a.of_null → Came P.went a did b → IsSpent 1 a b }
     ensures none { (n : ℕ) (a : ObjectsState P) → IsSpent n a a }
     ensures onward { (m n : ℕ) (a b c : ObjectsState P) → IsSpent m a b → IsSpent n b c → IsSpent (m + n) a c }
 {
-    gates_are_open();
+    hc_modes::operations_spend_little::<P>();
 }
+
+/// No operation hands out a cell.
+pub fn operations_hand_out_no_cell<P: Pace>()
+    ensures law { (a b : ObjectsState P) (did : Did) → Came P.went a did b → b.heap.view.used.cells ≡ a.heap.view.used.cells }
+{}
+
+/// Where a cell was handed out and is valid after an operation, it was before, and nothing changed at any object of its chain.
+pub fn valid_cells_say<P: Pace>()
+    ensures law { (a b : ObjectsState P) (did : Did) (c : ℕ) (was : CellWord) → Came P.went a did b → validity_in a.heap.view.trail c ≡ Some was → IsSomeAnd (validity_in b.heap.view.trail c) (λ now. SaysStill a b was now) }
+{}
 
 /// What fields say is true of the values of objects where there is none yet; it stays true over an operation, and over the moves
 /// that want of memory leaves, and constants stay.
@@ -42,6 +39,7 @@ pub fn fields_stay_honest<P: Pace>()
     ensures law { (a b : ObjectsState P) (did : Did) → IsObjects a.heap.view a.kept a.of_null → Came P.went a did b → FactsStay a.heap.view.shape a.heap.view.trail b.heap.view.trail }
     ensures none { IsHonest [] }
 {
+    hc_modes::fields_stay_honest::<P>();
     constants_stay_on();
 }
 
@@ -50,5 +48,14 @@ pub fn prototypes_stay_calm<P: Pace>()
     ensures law { (a b : ObjectsState P) (did : Did) → IsObjects a.heap.view a.kept a.of_null → IsObjects b.heap.view b.kept b.of_null → Came P.went a did b
         → AreCalm a.heap.view.trail → AreCalm b.heap.view.trail }
 {
-    unused_says_nothing();
+    hc_modes::prototypes_stay_calm::<P>();
 }
+
+/// Where cells alone were written, objects keep their maps, what fields say stays true, and no map of a prototype is unstable that
+/// wasn't before.
+pub fn cells_stand_alone<P: Pace>()
+    ensures world { (a b : ObjectsState P) → OnlyCells P.went a b → world_of b ≡ world_of a }
+    ensures maps { (a b : ObjectsState P) (o : ℕ) → OnlyCells P.went a b → map_in b.heap.view.trail o ≡ map_in a.heap.view.trail o }
+    ensures facts { (a b : ObjectsState P) → OnlyCells P.went a b → FactsStay a.heap.view.shape a.heap.view.trail b.heap.view.trail }
+    ensures calm { (a b : ObjectsState P) → OnlyCells P.went a b → AreCalm a.heap.view.trail → AreCalm b.heap.view.trail }
+{}

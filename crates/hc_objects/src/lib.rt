@@ -1,25 +1,22 @@
-//! Fast and slow objects over the tree of maps.
+//! Objects as property tables, fast and slow, with validity cells: a prototype's cell is valid as long as nothing changes on its
+//! chain.
 #![tactic(auto)]
 
-mod admitting;
-mod becoming;
-mod changing;
-mod creates;
-mod growing;
-mod inheriting;
+mod altering;
+mod cells;
+mod change;
+mod creating;
+mod following;
 mod laws;
-mod leaving;
 mod looks;
 mod objects;
-mod privates;
-mod properties;
+mod performing;
+mod readers;
 mod reads;
-mod relinks;
-mod removing;
-mod shapes;
-mod slow;
 mod tables;
-mod writes;
 
-pub use laws::{fields_stay_honest, operations_spend_little, prototypes_stay_calm, writes_go_on};
+pub use laws::{
+    cells_stand_alone, fields_stay_honest, operations_hand_out_no_cell, operations_spend_little,
+    prototypes_stay_calm, valid_cells_say,
+};
 pub use objects::Objects;

@@ -6,7 +6,7 @@ use hc_heap::Pace;
 impl<P: Pace> Look for Objects<P> {
     ghost use Rattle.std.specs.Prelude.{Some};
     ghost use Rattle.hc_board.specs.States.{words_of};
-    ghost use Rattle.hc_objects.specs.Looks.{HasLooked, looked-stays, looked-goes_on};
+    ghost use Rattle.hc_modes.specs.Looks.{HasLooked, looked-stays, looked-goes_on};
 
     ghost image = { λ o. Some (words_of o.heap.desk) };
 
@@ -17,6 +17,6 @@ impl<P: Pace> Look for Objects<P> {
     ghost goes_on = { looked-goes_on };
 
     fn look(&mut self, index: u32) -> u64 {
-        self.heap.look(index)
+        self.inside.look(index)
     }
 }

@@ -1,38 +1,48 @@
-//! Objects, fast and slow.
-ghost use Rattle.std.specs.Prelude.{◌≡◌, ◌<◌, ◌↔◌, None, Some, [], length, IfOk, IsSome};
+//! Objects, and which of them valid cells may concern.
+ghost use Rattle.std.specs.Prelude.{◌≡◌, ◌≢◌, ◌<◌, ◌↔◌, IsTrue, None, Some, [], length, replicate, IfOk, IsSome};
 ghost use Rattle.hc_board.specs.States.{AllFit, TableId, counted};
+ghost use Rattle.hc_cells.specs.Cells.{AreCells};
 ghost use Rattle.hc_heap.specs.Readings.{map_in};
 ghost use Rattle.hc_heap.specs.States.{IsDesk, OnlyLoads, no_items};
 ghost use Rattle.hc_layout.specs.Shape.{IsShape, items_of};
-ghost use Rattle.hc_objects.specs.Looks.{AreFast};
-ghost use Rattle.hc_objects.specs.Meaning.{kept_of};
-ghost use Rattle.hc_objects.specs.State.{IsObjects};
+ghost use Rattle.hc_modes.specs.Looks.{AreFast};
+ghost use Rattle.hc_modes.specs.Meaning.{cause_in, kept_of};
+ghost use Rattle.hc_modes.specs.Modes.{AreAlike, HaveOneWord, mode_of};
+ghost use Rattle.hc_modes.specs.State.{IsObjects};
 ghost use Rattle.hc_objects.specs.Came.{IsStill, world_of};
 
-use hc_dict::Dictionary;
-use hc_heap::{Heap, Pace, unused_says_nothing};
+use hc_cells::Watched;
+use hc_heap::Pace;
 use hc_layout::{Region, Shape};
-use hc_value::Memory;
+use hc_modes::Objects as Inside;
+use hc_value::{Memory, Mode};
 use std::alloc::Global;
 use std::marker::Model;
 
-/// Objects: fast ones by their maps and slots, slow ones by dictionaries.
+/// Objects, of each that is slow its prototype, and marks of those that a valid cell may concern.
 #[derive(Drop)]
 pub struct Objects<P: Pace> {
-    pub(crate) heap: Heap<P>,
-    pub(crate) kept: Vec<Option<Dictionary>>,
-    pub(crate) of_null: Option<u32>,
-    pub(crate) alloc: Global,
+    pub(crate) inside: Inside<P>,
+    pub(crate) protos: Vec<Option<u32>>,
+    pub(crate) watched: Watched,
 }
 
 impl<P: Pace> Model for Objects<P> {
-    ghost use Rattle.hc_objects.specs.State.{ObjectsState, IsObjects};
+    ghost use Rattle.hc_modes.specs.State.{ObjectsState};
+    ghost use Rattle.hc_objects.specs.State.{IsWatching};
 
     ghost Value = { ObjectsState P };
 
-    ghost view = { λ o. record { heap = o.heap; kept = o.kept.items; of_null = o.of_null } };
+    ghost view = { λ o. o.inside };
 
-    ghost invariant = { λ o. IsObjects o.heap.view o.kept.items o.of_null };
+    ghost invariant = { λ o. IsWatching o.inside o.protos.items o.watched };
+}
+
+// The prototypes of slow objects, while none is.
+fn no_protos(alloc: Global, objects: u32) -> Result<Vec<Option<u32>>, Memory>
+    ensures none { IfOk result (λ protos. protos.items ≡ replicate objects None) }
+{
+    Ok(vec![in alloc; None; objects as usize]?)
 }
 
 impl<P: Pace> Objects<P> {
@@ -46,39 +56,41 @@ impl<P: Pace> Objects<P> {
         ensures none { IfOk result (λ o. o.kept ≡ []) }
         ensures null { IfOk result (λ o. o.of_null ≡ None) }
     {
-        let heap = Heap::new(alloc, shape, pace)?;
+        let most = shape.objects;
+        let inside = Inside::new(alloc, shape, pace)?;
+        let protos = no_protos(alloc, most)?;
+        let watched = Watched::new(alloc, most)?;
         Ok(Objects {
-            heap,
-            kept: Vec::new(alloc),
-            of_null: None,
-            alloc,
+            inside,
+            protos,
+            watched,
         })
     }
 
-    /// What holds of objects: the words and the dictionaries are sound, an object that has a map is fast with it, the words are
-    /// those of the board's stores, and the pace fits the board.
+    /// What holds of objects: the words and the dictionaries are sound, an object that has a map is fast with it, cells are sound, the
+    /// words are those of the board's stores, and the pace fits the board.
     pub fn stands(&self)
         ensures sound { IsObjects self.now.heap.view self.now.kept self.now.of_null }
         ensures fast { AreFast self.now.heap.view.trail }
+        ensures cells { AreCells self.now.heap.view.trail self.now.heap.view.used }
         ensures desk { IsDesk self.now.heap.view self.now.heap.desk }
         ensures fits { P.fits self.now.heap.pace self.now.heap.desk.board }
     {
-        unused_says_nothing();
-        self.heap.stands();
+        self.inside.stands();
     }
 
     /// How many items of a region were handed out.
     pub fn used(&self, region: Region) -> u32
         ensures { result ≡ items_of self.now.heap.view.used region }
     {
-        self.heap.used(region)
+        self.inside.used(region)
     }
 
     /// The number of stores, up to the end of its type.
     pub fn writes(&self) -> u64
         ensures count { result ≡ counted (length self.now.heap.desk.trail) }
     {
-        self.heap.writes()
+        self.inside.writes()
     }
 
     /// The number of met entries, up to the end of its type. Each of them fits the stores.
@@ -86,7 +98,7 @@ impl<P: Pace> Objects<P> {
         ensures count { result ≡ counted (length self.now.heap.desk.met) }
         ensures fits { AllFit self.now.heap.desk }
     {
-        self.heap.met()
+        self.inside.met()
     }
 
     /// The map of an object; none exactly where the object is slow.
@@ -97,6 +109,29 @@ impl<P: Pace> Objects<P> {
         ensures still { IsStill self.old self.new }
         ensures loads { OnlyLoads 1 self.old.heap.desk self.new.heap.desk }
     {
-        self.heap.object_map(o)
+        self.inside.map_of(o)
+    }
+
+    /// How an object is kept: fast with so many properties, or slow for a cause.
+    pub fn shape(&mut self, o: u32) -> Result<Mode, Memory>
+        requires there { o < length (world_of self.old) }
+        ensures mode { IfOk result (λ mode. mode ≡ mode_of self.old.heap.view.trail self.old.kept o) }
+        ensures still { IsStill self.old self.new }
+        ensures loads { OnlyLoads 2 self.old.heap.desk self.new.heap.desk }
+    {
+        self.inside.shape(o)
+    }
+
+    /// Whether two objects are fast and have one map.
+    pub fn same(&mut self, a: u32, b: u32) -> Result<bool, Memory>
+        requires a { a < length (world_of self.old) }
+        requires b { b < length (world_of self.old) }
+        ensures itself { a ≡ b → IfOk result (λ same. IsTrue same ↔ (cause_in self.old.kept a ≡ None)) }
+        ensures others { a ≢ b → IfOk result (λ same. IsTrue same ↔ AreAlike self.old.heap.view.trail self.old.kept a b) }
+        ensures words { IfOk result (λ same. IsTrue same ↔ HaveOneWord self.old.heap.view.trail a b) }
+        ensures still { IsStill self.old self.new }
+        ensures loads { OnlyLoads 2 self.old.heap.desk self.new.heap.desk }
+    {
+        self.inside.same(a, b)
     }
 }

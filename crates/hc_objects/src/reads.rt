@@ -1,16 +1,12 @@
 //! Reads of objects. They leave all as it was, but for a few loads.
 ghost use Rattle.std.specs.Prelude.{◌≡◌, ◌+◌, ◌<◌, ◌≤◌, Some, length, slice_get};
-ghost use Rattle.std.specs.Option.{option_copied};
 ghost use Rattle.hc_heap.specs.States.{OnlyLoads};
 ghost use Rattle.hc_table.specs.Attributes.{IsProper};
 ghost use Rattle.hc_table.specs.World.{IsWorld, object, props_at, place_of};
-ghost use Rattle.hc_objects.specs.Meaning.{kept_of};
 ghost use Rattle.hc_objects.specs.Came.{IsStill, world_of};
 
 use crate::objects::Objects;
-use hc_dict::Dictionary;
 use hc_heap::Pace;
-use hc_slots::fast;
 use hc_value::Prop;
 
 impl<P: Pace> Objects<P> {
@@ -20,15 +16,7 @@ impl<P: Pace> Objects<P> {
         ensures room { length (world_of self.now) ≤ self.now.heap.view.shape.objects }
         ensures sound { IsWorld (world_of self.now) }
     {
-        self.kept.len() as u32
-    }
-
-    // The dictionary of an object, where it is slow.
-    pub(crate) fn slow(&self, o: u32) -> Option<&Dictionary>
-        requires { o < length (world_of self.now) }
-        ensures { option_copied result ≡ kept_of self.now.kept o }
-    {
-        self.kept[o as usize].as_ref()
+        self.inside.count()
     }
 
     /// The prototype of an object.
@@ -39,10 +27,7 @@ impl<P: Pace> Objects<P> {
         ensures loads { OnlyLoads 2 self.old.heap.desk self.new.heap.desk }
         ensures sound { IsWorld (world_of self.old) }
     {
-        if let Some(slow) = self.slow(o) {
-            return slow.proto;
-        }
-        fast::proto(&mut self.heap, o)
+        self.inside.proto(o)
     }
 
     /// Whether an object may get properties.
@@ -53,10 +38,7 @@ impl<P: Pace> Objects<P> {
         ensures loads { OnlyLoads 2 self.old.heap.desk self.new.heap.desk }
         ensures sound { IsWorld (world_of self.old) }
     {
-        if let Some(slow) = self.slow(o) {
-            return slow.extensible;
-        }
-        fast::extensible(&mut self.heap, o)
+        self.inside.extensible(o)
     }
 
     /// How many properties an object has of its own. The gaps of a slow one are closed, for a walk over all places.
@@ -67,11 +49,7 @@ impl<P: Pace> Objects<P> {
         ensures loads { OnlyLoads 2 self.old.heap.desk self.new.heap.desk }
         ensures sound { IsWorld (world_of self.old) }
     {
-        if self.is_slow(o) {
-            self.close_slow(o);
-            return self.slow(o).unwrap().props.len();
-        }
-        fast::len(&mut self.heap, o)
+        self.inside.len(o)
     }
 
     /// The place of an object's own property of a name.
@@ -82,10 +60,7 @@ impl<P: Pace> Objects<P> {
         ensures loads { OnlyLoads (length (props_at (world_of self.old) o) + 3) self.old.heap.desk self.new.heap.desk }
         ensures sound { IsWorld (world_of self.old) }
     {
-        if let Some(slow) = self.slow(o) {
-            return slow.props.find(name);
-        }
-        fast::find(&mut self.heap, o, name)
+        self.inside.find_own(o, name)
     }
 
     /// An object's own property at a place.
@@ -98,9 +73,6 @@ impl<P: Pace> Objects<P> {
         ensures loads { OnlyLoads 7 self.old.heap.desk self.new.heap.desk }
         ensures sound { IsWorld (world_of self.old) }
     {
-        if let Some(slow) = self.slow(o) {
-            return slow.props.prop(i);
-        }
-        fast::prop_at(&mut self.heap, o, i)
+        self.inside.prop_at(o, i)
     }
 }

@@ -2,6 +2,7 @@
 ghost use Rattle.std.specs.Prelude.{◌≡◌};
 ghost use Rattle.hc_objects.specs.Came.{world_of};
 
+use crate::change::Change;
 use crate::objects::Objects;
 use hc_heap::Pace;
 use hc_table::{TableFault, Tables};
@@ -22,7 +23,7 @@ impl<P: Pace> Tables for Objects<P> {
     }
 
     fn create(&mut self, proto: Option<u32>) -> Result<u32, TableFault> {
-        Objects::create(self, proto)
+        self.make(proto)
     }
 
     fn proto(&mut self, o: u32) -> Option<u32> {
@@ -46,32 +47,31 @@ impl<P: Pace> Tables for Objects<P> {
     }
 
     fn add(&mut self, o: u32, p: Prop) -> Result<(), Memory> {
-        self.add_property(o, p)
+        self.apply(o, Change::Add(p))
     }
 
     fn write(&mut self, o: u32, i: u32, held: Held) -> Result<(), Memory> {
-        self.write_property(o, i, held);
-        Ok(())
+        self.apply(o, Change::Write(i, held))
     }
 
     fn reconfigure(&mut self, o: u32, i: u32, p: Prop) -> Result<(), Memory> {
-        Objects::reconfigure(self, o, i, p)
+        self.apply(o, Change::Put(i, p))
     }
 
     fn remove(&mut self, o: u32, i: u32) -> Result<(), Memory> {
-        Objects::remove(self, o, i)
+        self.apply(o, Change::Remove(i))
     }
 
     fn set_proto(&mut self, o: u32, proto: Option<u32>) -> Result<(), Memory> {
-        self.set_prototype(o, proto)
+        self.apply(o, Change::Link(proto))
     }
 
     fn lock(&mut self, o: u32) -> Result<(), Memory> {
-        Objects::lock(self, o)
+        self.apply(o, Change::Lock)
     }
 
     fn restrict(&mut self, o: u32, frozen: bool) -> Result<(), Memory> {
-        Objects::restrict(self, o, frozen)
+        self.apply(o, Change::Restrict(frozen))
     }
 
     ghost nothing_done = { came-refl P.went };

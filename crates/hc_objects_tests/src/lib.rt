@@ -1,4 +1,5 @@
-//! Tests of objects where no script reaches: boards of few items, what was handed out, and what fields say.
+//! Tests of objects where no script reaches: boards of few items, what was handed out, what fields say, and which
+//! cells are valid.
 #![tactic(auto)]
 
 #[cfg(test)]
@@ -9,3 +10,5 @@ mod growth;
 mod small;
 #[cfg(test)]
 mod steps;
+#[cfg(test)]
+mod validity;

@@ -6,7 +6,7 @@ use hc_broker::Peek;
 use hc_heap::Free;
 use hc_layout::Shape;
 use hc_objects::Objects;
-use hc_ops::{define, lock, set, set_proto};
+use hc_ops::{define, delete, lock, set, set_proto};
 use hc_table::{TableFault, Tables};
 use hc_value::{Class, Constness, Detail, Memory, NUMBER_LIMIT, Num, PropDesc, Rep, Reply, Value};
 use std::process::Abort;
@@ -36,6 +36,7 @@ pub enum Step {
     New(Option<u32>),
     Set(u32, u32, Given),
     Getter(u32, u32, u32),
+    Delete(u32, u32),
     Link(u32, u32),
     Lock(u32),
 }
@@ -114,6 +115,19 @@ fn define_getter(
     Ok(())
 }
 
+fn delete_it(
+    rt: &impl Abort,
+    objects: &mut Objects<Free>,
+    o: u32,
+    name: u32,
+) -> Result<(), Memory> {
+    let there = o < objects.count();
+    assert!(rt; there);
+    let reply = delete(objects, o, name)?;
+    assert!(rt; matches!(reply, Reply::Flag(true)));
+    Ok(())
+}
+
 fn link(rt: &impl Abort, objects: &mut Objects<Free>, o: u32, proto: u32) -> Result<(), Memory> {
     let there = o < objects.count();
     assert!(rt; there);
@@ -137,6 +151,7 @@ pub fn take(rt: &impl Abort, objects: &mut Objects<Free>, step: Step) -> Result<
         Step::New(proto) => make(rt, objects, proto),
         Step::Set(o, name, given) => set_to(rt, objects, o, name, given),
         Step::Getter(o, name, getter) => define_getter(rt, objects, o, name, getter),
+        Step::Delete(o, name) => delete_it(rt, objects, o, name),
         Step::Link(o, proto) => link(rt, objects, o, proto),
         Step::Lock(o) => lock_it(rt, objects, o),
     }

@@ -4,7 +4,7 @@ use Rattle.std.specs.Prelude.{OnErr, Result}
 use Rattle.hc_value.specs.declared.memory.Memory.{Memory as NoMemory}
 use Rattle.hc_value.specs.declared.reply.Reply.{Reply}
 use Rattle.hc_objects.specs.Came.{Came, IsStill, Moves}
-use Rattle.hc_objects.specs.State.{ObjectsState}
+use Rattle.hc_modes.specs.State.{ObjectsState}
 use Rattle.hc_board.specs.Trail.{Access}
 use Rattle.hc_lines.specs.Lines.{ahead}
 use Rattle.hc_script.specs.Reading.{Position, TakesCommand, TakesEnd, Serves}
@@ -28,7 +28,7 @@ use mathlib.Core.Logic.{inl, inr}
 
 -- a command that lacks memory only reads, or moves
 still_moves : {P : Type 0} (went : P → List Access → List Access → P → Type 0) (old new : ObjectsState P) → IsStill old new → Moves went old new
-still_moves {P} went old new still = record { moves = []; few = omega arith; ends = tt; are = still }
+still_moves {P} went old new still = inl still
 
 pub want_moves : {P : Type 0} (went : P → List Access → List Access → P → Type 0) (old new : ObjectsState P) (command : Command) → Came went old (did_in_want command) new → Moves went old new
 want_moves {P} went old new (Keys o) came = still_moves went old new came

@@ -12,10 +12,10 @@ use Rattle.hc_sites.specs.declared.state.SiteState.{SiteState}
 use Rattle.hc_table.specs.Changes.{Did, Nothing, Moved, after}
 use Rattle.hc_table.specs.Kept.{Kept as Tables, with_world}
 use Rattle.hc_ops.specs.Act.{Act}
-use Rattle.hc_objects.specs.State.{ObjectsState, IsObjects}
-use Rattle.hc_objects.specs.Admitting.{ConstantsStay, FactsStay}
+use Rattle.hc_modes.specs.State.{ObjectsState, IsObjects}
+use Rattle.hc_modes.specs.Admitting.{ConstantsStay, FactsStay}
 use Rattle.hc_objects.specs.Came.{Came, IsStill, Moves}
-use Rattle.hc_objects.specs.Rest.{AreCalm}
+use Rattle.hc_modes.specs.Rest.{AreCalm}
 use Rattle.hc_commands.specs.declared.command.Command.{Command}
 use Rattle.hc_commands.specs.declared.command.Command.TheVariants.{Shape, Same, Declare}
 use Rattle.hc_report.specs.declared.line.Line.{Line}
@@ -122,7 +122,7 @@ declared_came {P} went objects sites op name (Err fault) = tt
 
 pub declared_moves : {P : Type 0} (went : P → List Access → List Access → P → Type 0) (objects : ObjectsState P) (r : Result Reply Memory) → OnErr r (Moves went objects objects)
 declared_moves {P} went objects (Ok reply) = tt
-declared_moves {P} went objects (Err fault) = record { moves = []; few = omega arith; ends = tt; are = no_move objects }
+declared_moves {P} went objects (Err fault) = inl (no_move objects)
 
 pub declared_tells_nothing : {P : Type 0} (objects : ObjectsState P) (op : Op) (name : ℕ) (r : Result Reply Memory) → IfOk r (λ reply. IsTrueReply objects (Declare op name) reply)
 declared_tells_nothing {P} objects op name (Ok reply) = tt

@@ -2,8 +2,8 @@
 use Rattle.std.proofs.Common.{◌≡◌, ℕ, ◌+◌, List, [], ◌∷◌, length, sym, ap, subst, arith}
 use Rattle.hc_table.specs.Changes.{Did, Moved}
 use Rattle.hc_objects.specs.Came.{Came}
-use Rattle.hc_objects.specs.Spent.{IsSpent}
-use Rattle.hc_objects.specs.State.{ObjectsState, IsObjects}
+use Rattle.hc_modes.specs.Spent.{IsSpent}
+use Rattle.hc_modes.specs.State.{ObjectsState, IsObjects}
 use Rattle.hc_session.specs.Keeping.{IsLeft, IsLeftInWant}
 use Rattle.hc_session.specs.Output.{Place, Turns, Answers}
 use Rattle.hc_session.specs.Replay.{the_first_place}

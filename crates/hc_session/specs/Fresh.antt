@@ -2,10 +2,10 @@
 use Rattle.std.specs.Prelude.{◌≡◌, ◌≤◌, true, None, []}
 use Rattle.hc_layout.specs.declared.shape.TheConstants.{USUAL}
 use Rattle.hc_heap.specs.States.{no_items}
-use Rattle.hc_objects.specs.Admitting.{IsHonest}
+use Rattle.hc_modes.specs.Admitting.{IsHonest}
 use Rattle.hc_objects.specs.Came.{world_of}
-use Rattle.hc_objects.specs.Rest.{AreCalm}
-use Rattle.hc_objects.specs.State.{ObjectsState}
+use Rattle.hc_modes.specs.Rest.{AreCalm}
+use Rattle.hc_modes.specs.State.{ObjectsState}
 use Rattle.hc_session.specs.Standing.{Standing}
 
 -- a state in which nothing was done: there is no object, no word was stored, no item handed out and no reader met

@@ -1,6 +1,6 @@
 -- How a replay keeps the objects behind the property tables, the sites and the log.
 use Rattle.std.specs.Prelude.{◌≡◌, ◌+◌, length}
-use Rattle.hc_objects.specs.Spent.{IsSpent}
+use Rattle.hc_modes.specs.Spent.{IsSpent}
 use Rattle.hc_script.specs.declared.fault.Status.{Status}
 use Rattle.hc_session.specs.Output.{Outside, Place}
 use Rattle.hc_session.specs.Replay.{EndsRun, the_first_place}

@@ -2,7 +2,7 @@
 use Rattle.std.specs.Prelude.{ℕ, Bool, List, map}
 use Rattle.hc_table.specs.Kept.{Kept as Tables}
 use Rattle.hc_objects.specs.Came.{world_of}
-use Rattle.hc_objects.specs.State.{ObjectsState}
+use Rattle.hc_modes.specs.State.{ObjectsState}
 use Rattle.hc_report.specs.declared.line.Line.{Line}
 use Rattle.hc_report.specs.declared.marks.Mark.{Mark}
 use Rattle.hc_sites.specs.declared.state.SiteState.{SiteState}

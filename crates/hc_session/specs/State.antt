@@ -5,12 +5,12 @@ use Rattle.hc_value.specs.declared.reply.Reply.{Reply}
 use Rattle.hc_value.specs.declared.reply.Reply.TheVariants.{Flag, Shape as HowKept}
 use Rattle.hc_table.specs.Changes.{Did, Nothing, Moved}
 use Rattle.hc_heap.specs.States.{IsDesk}
-use Rattle.hc_objects.specs.Admitting.{IsHonest}
+use Rattle.hc_modes.specs.Admitting.{IsHonest}
 use Rattle.hc_objects.specs.Came.{Came, Moves}
-use Rattle.hc_objects.specs.Meaning.{cause_in}
-use Rattle.hc_objects.specs.Modes.{AreAlike, HaveOneWord, mode_of}
-use Rattle.hc_objects.specs.Rest.{AreCalm}
-use Rattle.hc_objects.specs.State.{ObjectsState, IsObjects}
+use Rattle.hc_modes.specs.Meaning.{cause_in}
+use Rattle.hc_modes.specs.Modes.{AreAlike, HaveOneWord, mode_of}
+use Rattle.hc_modes.specs.Rest.{AreCalm}
+use Rattle.hc_modes.specs.State.{ObjectsState, IsObjects}
 use Rattle.hc_commands.specs.declared.command.Command.{Command}
 use Rattle.hc_commands.specs.declared.command.Command.TheVariants.{Keys, Shape, Same, Declare}
 use Rattle.hc_sites.specs.State.{new_site}

@@ -1,6 +1,6 @@
 ghost use Rattle.std.specs.Prelude.{◌≡◌, [], ◌∷◌, ◌++◌, true, false, length, IfOk, OnOk, OnErr};
 ghost use Rattle.hc_layout.specs.Shape.{IsShape};
-ghost use Rattle.hc_objects.specs.Admitting.{ConstantsStay};
+ghost use Rattle.hc_modes.specs.Admitting.{ConstantsStay};
 ghost use Rattle.hc_session.specs.Fresh.{IsNew};
 ghost use Rattle.hc_session.specs.Logging.{mark_of};
 ghost use Rattle.hc_session.specs.Plain.{HasSiteNumber, IsServed};

@@ -1,11 +1,5 @@
-use Rattle.hc_objects.proofs.Spending.{spent-none, spent-on, spent-one}
+use Rattle.hc_objects.proofs.Lawful.{spent-one}
 use Rattle.hc_objects.proofs.laws.operations_spend_little.Goals as goal
 
 pub returns-clause-one : goal.returns-clause-one
-returns-clause-one g c a b did objects came = spent-one c.gates_are_open.ensures.law g.P.Pace.went a b did objects came
-
-pub returns-clause-none : goal.returns-clause-none
-returns-clause-none g c n a = spent-none n a
-
-pub returns-clause-onward : goal.returns-clause-onward
-returns-clause-onward g c m n a b e first second = spent-on m n a b e first second
+returns-clause-one g c a b did sound came = spent-one g.P.Pace.went c.operations_spend_little.ensures.one a b did sound came

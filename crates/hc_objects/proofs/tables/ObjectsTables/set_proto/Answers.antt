@@ -3,14 +3,14 @@ use Rattle.std.proofs.lemmas.Result.{on_err_weaker}
 use Rattle.hc_layout.specs.declared.shape.Shape.{Shape}
 use Rattle.hc_table.specs.Changes.{Moved, Linked}
 use Rattle.hc_objects.specs.Laws.{came-shape, came-world}
-use Rattle.hc_objects.proofs.Slowed.{either}
+use Rattle.hc_objects.proofs.Applying.{either}
 use Rattle.hc_objects.proofs.tables.ObjectsTables.set_proto.Goals as goal
 
 pub returns-clause-err : goal.returns-clause-err
-returns-clause-err g c = on_err_weaker c.set_prototype.result (λ moves. came-world g.P.Pace.went c.args.self.now c.set_prototype.new.self Moved moves) c.set_prototype.ensures.moved
+returns-clause-err g c = on_err_weaker c.apply.result (λ moves. came-world g.P.Pace.went c.args.self.now c.apply.new.self Moved moves) c.apply.ensures.moved
 
 pub returns-clause-same_limit : goal.returns-clause-same_limit
-returns-clause-same_limit g c = either c.set_prototype.result _ _ _
-    (λ effect. ap (λ (s : Shape). s.objects) (came-shape g.P.Pace.went c.args.self.now c.set_prototype.new.self (Linked c.args.o c.args.proto) effect))
-    (λ moves. ap (λ (s : Shape). s.objects) (came-shape g.P.Pace.went c.args.self.now c.set_prototype.new.self Moved moves))
-    c.set_prototype.ensures.did c.set_prototype.ensures.moved
+returns-clause-same_limit g c = either c.apply.result _ _ _
+    (λ came. ap (λ (s : Shape). s.objects) (came-shape g.P.Pace.went c.args.self.now c.apply.new.self (Linked c.args.o c.args.proto) came))
+    (λ moves. ap (λ (s : Shape). s.objects) (came-shape g.P.Pace.went c.args.self.now c.apply.new.self Moved moves))
+    c.apply.ensures.did c.apply.ensures.moved

@@ -1,6 +1,6 @@
 use Rattle.std.proofs.Common.{◌≡◌, [], ◌∷◌, ◌++◌, false, refl, sym, ◌∙◌, ap, subst}
-use Rattle.hc_objects.specs.Admitting.{ConstantsStay}
-use Rattle.hc_objects.specs.State.{ObjectsState, IsObjects}
+use Rattle.hc_modes.specs.Admitting.{ConstantsStay}
+use Rattle.hc_modes.specs.State.{ObjectsState, IsObjects}
 use Rattle.hc_session.specs.Logging.{mark_of}
 use Rattle.hc_session.specs.Standing.{Standing}
 use Rattle.hc_session.specs.State.{Stands}

@@ -1,4 +1,0 @@
-use Rattle.hc_objects.proofs.relinks.link_object.Goals as goal
-
-pub of_retarget-requires : goal.of_retarget-requires
-of_retarget-requires g c = record { few = (c.gates_are_open.ensures.law c.args.h.now.view.shape c.args.h.now.view.trail c.args.map _ c.stands.ensures.heap.lawful c.requires.open).few }
