@@ -9,6 +9,6 @@ mod write;
 
 pub use change::{delete, freeze, lock, seal, set_proto};
 pub use descriptor::define;
-pub use read::{get, has, keys, own};
+pub use read::{get, has, keys, own, read_held};
 pub use walk::{Found, Spot, comes_to, nearest, own_property};
 pub use write::set;

@@ -21,11 +21,11 @@ pub fn get<T: Tables>(t: &mut T, o: u32, name: u32) -> Reply
     let Some(spot) = nearest(t, o, name) else {
         return Reply::Val(Value::Undefined);
     };
-    read(o, spot.property.held)
+    read_held(o, spot.property.held)
 }
 
-// What reading what a property holds gives, where an object was asked.
-fn read(o: u32, held: Held) -> Reply
+/// What reading what a property holds gives, where an object was asked.
+pub fn read_held(o: u32, held: Held) -> Reply
     ensures { result ≡ read_of o held }
 {
     match held {

@@ -1,0 +1,13 @@
+mod Places
+mod Names
+mod Chained
+mod Standing
+mod Keeping
+mod Uses
+mod Happening
+mod Lookups
+mod Answering
+mod Writing
+mod Asking
+mod Going
+mod Before
