@@ -1,0 +1,28 @@
+use Rattle.std.proofs.Common.{◌≡◌, true, ap, sym, subst}
+use Rattle.std.proofs.Math.Nat.{le_refl}
+use Rattle.hc_jobs.specs.Opened.{is_open}
+use Rattle.hc_compiler.specs.Calls.{Finishes}
+use Rattle.hc_compiler.specs.Ends.{HasEnded}
+use Rattle.hc_compiler.specs.Jobs.{AreReading, Compiling}
+use Rattle.hc_compiler.proofs.Numbered.{numbered-after}
+use Rattle.hc_compiler.proofs.compiler.Compiler.finish.Goals as goal
+
+pub finish_job-requires-clause-reading : goal.finish_job-requires-clause-reading
+finish_job-requires-clause-reading g c = subst (λ (k : Compiling). AreReading c.args.objects.now k.jobs) (sym c.self.view_is) c.requires.reading
+
+pub invariant_of-self : goal.invariant_of-self
+invariant_of-self g c =
+    let there : is_open c.self.inside.jobs c.args.j ≡ true = subst (λ (k : Compiling). is_open k.jobs c.args.j ≡ true) (sym c.self.view_is) c.requires.there in
+    numbered-after c.self.inside.started c.self.inside.started c.self.inside.jobs c.finish_job.new.jobs c.args.j c.finish_job.ensures.finishes.others (le_refl c.self.inside.started) (c.self.invariant c.args.j there) c.self.invariant
+
+pub returns-clause-finishes : goal.returns-clause-finishes
+returns-clause-finishes g c = subst (λ (k : Compiling). Finishes c.args.objects.now k.jobs c.args.j c.finish_job.new.objects c.finish_job.new.jobs) c.self.view_is c.finish_job.ensures.finishes
+
+pub returns-clause-ended : goal.returns-clause-ended
+returns-clause-ended g c = subst (λ (k : Compiling). HasEnded k.jobs c.args.j c.finish_job.result c.finish_job.new.objects) c.self.view_is c.finish_job.ensures.ended
+
+pub returns-clause-started : goal.returns-clause-started
+returns-clause-started g c = ap (λ (k : Compiling). k.started) c.self.view_is
+
+pub returns-clause-reading : goal.returns-clause-reading
+returns-clause-reading g c = c.finish_job.ensures.reading

@@ -1,0 +1,6 @@
+pub mod Feedback
+pub mod Jobs
+pub mod Batches
+pub mod Ends
+pub mod Calls
+pub mod Laws

@@ -1,0 +1,126 @@
+//! Jobs, from their start to their end.
+ghost use Rattle.std.specs.Prelude.{◌≡◌, ◌+◌, ◌-◌, ◌<◌, ◌≤◌, ◌^◌, ◌↔◌, [], true, length, slice_get, IfOk, IfSome, IsTrue, OnOk, OnErr};
+ghost use Rattle.hc_jobs.specs.Opened.{is_open};
+ghost use Rattle.hc_answers.specs.Laws.{AreWritten};
+ghost use Rattle.hc_compiler.specs.Calls.{Finishes, Starts, Steps};
+ghost use Rattle.hc_compiler.specs.Ends.{HasEnded};
+ghost use Rattle.hc_compiler.specs.Jobs.{AreReading};
+
+use crate::batches::{finish_job, step_job};
+use crate::openings::begin;
+use hc_heap::{Pace, stores_are_writes};
+use hc_jobs::{JobTable, OpenJob, Reads, others_stay_open};
+use hc_layout::Shape;
+use hc_objects::Objects;
+use hc_question::Outcome;
+use hc_sites::Sites;
+use hc_value::Memory;
+use std::alloc::Global;
+use std::marker::Model;
+
+/// The jobs that are open, each with its own reader, and how many were started.
+#[derive(Drop)]
+pub struct Compiler {
+    jobs: JobTable,
+    started: u32,
+    alloc: Global,
+}
+
+impl Model for Compiler {
+    ghost use Rattle.hc_compiler.specs.Jobs.{Compiling, AreNumbered};
+
+    ghost Value = { Compiling };
+
+    ghost view = { λ c. record { started = c.started; jobs = c.jobs } };
+
+    ghost invariant = { λ c. AreNumbered (record { started = c.started; jobs = c.jobs }) };
+}
+
+impl Compiler {
+    /// No job was started. There is memory for as many as may be open.
+    pub fn new(alloc: Global) -> Result<Compiler, Memory>
+        ensures none { IfOk result (λ c. c ≡ record { started = 0; jobs = [] }) }
+    {
+        Ok(Compiler {
+            jobs: JobTable::new(alloc)?,
+            started: 0,
+            alloc,
+        })
+    }
+
+    /// How many jobs were started.
+    pub fn started(&self) -> u32
+        ensures { result ≡ self.now.started }
+    {
+        self.started
+    }
+
+    /// Whether there is room for a job more.
+    pub fn has_room(&self) -> bool
+        ensures room { IsTrue result ↔ length self.now.jobs < 64 }
+        ensures few { length self.now.jobs ≤ 64 }
+    {
+        self.jobs.has_room()
+    }
+
+    /// Whether the job of a number was started, and not finished.
+    pub fn is_open(&self, j: u32) -> bool
+        ensures there { result ≡ is_open self.now.jobs j }
+    {
+        self.jobs.is_open(j)
+    }
+
+    /// Starts a job for a site, with what it has seen of maps so far. The answer is the job's number.
+    pub fn start<P: Pace>(
+        &mut self,
+        objects: &mut Objects<P>,
+        shape: Shape,
+        sites: &Sites,
+        s: u32,
+    ) -> Result<u32, Memory>
+        requires shape { shape ≡ objects.old.heap.view.shape }
+        requires site { s < length sites.now }
+        requires written { IfSome (slice_get sites.now s) (λ state. AreWritten objects.old.heap.view.trail state.maps) }
+        requires room { length self.old.jobs < 64 }
+        requires numbers { self.old.started < 2 ^ 32 - 1 }
+        ensures number { IfOk result (λ j. j ≡ self.old.started) }
+        ensures started { OnOk result (self.new.started ≡ self.old.started + 1) }
+        ensures starts { OnOk result (IfSome (slice_get sites.now s) (λ state. Starts objects.old self.old.jobs self.old.started s state self.new.jobs)) }
+        ensures err { OnErr result (self.new ≡ self.old) }
+        ensures same { objects.new ≡ objects.old }
+        ensures reading { AreReading objects.old self.old.jobs → AreReading objects.new self.new.jobs }
+    {
+        others_stay_open();
+        stores_are_writes();
+        objects.stands();
+        let number = self.started;
+        let opened = begin(self.alloc, objects, shape, sites, s, number)?;
+        let OpenJob { job, reader } = opened;
+        self.started = number + 1;
+        self.jobs.start(job, reader);
+        Ok(number)
+    }
+
+    /// Lets an open job make so many reads, or all that are left where these are fewer.
+    pub fn step<P: Pace>(&mut self, objects: &mut Objects<P>, j: u32, n: Reads)
+        requires there { is_open self.old.jobs j ≡ true }
+        requires reading { AreReading objects.old self.old.jobs }
+        ensures steps { Steps n objects.old self.old.jobs j objects.new self.new.jobs }
+        ensures started { self.new.started ≡ self.old.started }
+        ensures reading { AreReading objects.new self.new.jobs }
+    {
+        step_job(&mut self.jobs, objects, j, n);
+    }
+
+    /// Lets an open job make all reads that are left, and ends it.
+    pub fn finish<P: Pace>(&mut self, objects: &mut Objects<P>, j: u32) -> Outcome
+        requires there { is_open self.old.jobs j ≡ true }
+        requires reading { AreReading objects.old self.old.jobs }
+        ensures finishes { Finishes objects.old self.old.jobs j objects.new self.new.jobs }
+        ensures ended { HasEnded self.old.jobs j result objects.new }
+        ensures started { self.new.started ≡ self.old.started }
+        ensures reading { AreReading objects.new self.new.jobs }
+    {
+        finish_job(&mut self.jobs, objects, j)
+    }
+}
