@@ -1,6 +1,7 @@
 pub mod Apart
 pub mod FieldsApart
 pub mod Fills
+pub mod FirstName
 pub mod FirstWord
 pub mod FormsApart
 pub mod NamesAfter

@@ -10,7 +10,7 @@ use Rattle.hc_commands.specs.Values.{begins_name, continues_name, IsName, is_tex
 continues_ascii : (byte : ℕ) → continues_name byte ≡ true → byte < 128
 continues_ascii byte h = grind (arith, nat_tests)
 
-begins_continues : (byte : ℕ) → begins_name byte ≡ true → continues_name byte ≡ true
+pub begins_continues : (byte : ℕ) → begins_name byte ≡ true → continues_name byte ≡ true
 begins_continues byte h = rw h refl
 
 text_ascii : (byte : ℕ) → is_text_byte byte ≡ true → byte < 128

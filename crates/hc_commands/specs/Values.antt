@@ -1,5 +1,5 @@
 -- Names, texts and values, and their words.
-use Rattle.std.specs.Prelude.{◌≡◌, ℕ, ◌<◌, ◌≤◌, ◌^◌, ℤ, Bool, true, false, not, ◌&&◌, ◌||◌, List, [], ◌∷◌, ◌++◌, length, Option, Some, None, codes, nat_le, ◌==◌}
+use Rattle.std.specs.Prelude.{◌≡◌, ℕ, suc, if◌then◌else◌, ◌<◌, ◌≤◌, ◌^◌, ℤ, Bool, true, false, not, ◌&&◌, ◌||◌, List, [], ◌∷◌, ◌++◌, length, Option, Some, None, codes, nat_le, ◌==◌}
 use Rattle.std.specs.List.{list_all}
 use Rattle.std.specs.Fmt.{decimal, signed_decimal}
 use Rattle.hc_value.specs.Num.{IsSafeInteger}
@@ -15,6 +15,11 @@ begins_name byte =
 -- one of these or a digit
 abbrev pub continues_name : ℕ → Bool
 continues_name byte = begins_name byte || (nat_le 48 byte && nat_le byte 57)
+
+-- how many bytes stand in front with which a name may go on
+abbrev pub name_run : List ℕ → ℕ
+name_run [] = 0
+name_run (byte ∷ bytes) = if continues_name byte then suc (name_run bytes) else 0
 
 abbrev pub is_name_text : List ℕ → Bool
 is_name_text [] = false

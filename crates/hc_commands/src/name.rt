@@ -1,39 +1,39 @@
-ghost use Rattle.std.specs.Prelude.{◌≡◌, ◌↔◌, IsTrue};
+ghost use Rattle.std.specs.Prelude.{◌≡◌, ◌≤◌, true, length};
 ghost use Rattle.std.specs.List.{list_all};
-ghost use Rattle.hc_commands.specs.Values.{begins_name, continues_name, is_name_text, IsName};
+ghost use Rattle.hc_commands.specs.Values.{begins_name, continues_name, is_name_text, name_run};
 
-use crate::limits::MAX_NAME;
-
-/// Whether a word is a name.
-pub fn is_name(word: &[u8]) -> bool
-    ensures { IsTrue result ↔ IsName word.now }
+/// How many bytes stand in front with which a name may go on.
+pub(crate) fn name_run(bytes: &[u8]) -> usize
+    ensures run { result ≡ name_run bytes.now }
+    ensures within { result ≤ length bytes.now }
 {
-    is_spelled_as_name(word) && word.len() <= MAX_NAME
+    for (i, byte) in bytes.iter().enumerate() {
+        if !continues(*byte) {
+            return i;
+        }
+    }
+    bytes.len()
 }
 
-fn is_spelled_as_name(word: &[u8]) -> bool
-    ensures { result ≡ is_name_text word.now }
+/// Whether bytes with which a name may go on are spelled as a name.
+pub(crate) fn begins_as_name(bytes: &[u8]) -> bool
+    requires { list_all continues_name bytes.now ≡ true }
+    ensures { result ≡ is_name_text bytes.now }
 {
-    match word {
-        [first, others @ ..] => begins(*first) && continues_to_end(others),
+    match bytes {
+        [first, ..] => begins(*first),
         [] => false,
     }
-}
-
-fn continues_to_end(bytes: &[u8]) -> bool
-    ensures { result ≡ list_all continues_name bytes.now }
-{
-    bytes.iter().all(|byte| continues(*byte))
 }
 
 fn begins(byte: u8) -> bool
     ensures { result ≡ begins_name byte }
 {
-    matches!(byte, b'A'..=b'Z' | b'a'..=b'z' | b'_' | b'$')
+    byte.is_ascii_lowercase() || byte.is_ascii_uppercase() || byte == b'_' || byte == b'$'
 }
 
 fn continues(byte: u8) -> bool
     ensures { result ≡ continues_name byte }
 {
-    begins(byte) || matches!(byte, b'0'..=b'9')
+    begins(byte) || byte.is_ascii_digit()
 }

@@ -3,9 +3,10 @@ ghost use Rattle.std.specs.Fmt.{decimal};
 ghost use Rattle.hc_commands.specs.Words.{words_of};
 ghost use Rattle.hc_commands.specs.Values.{IsName, object_word};
 
-use crate::name::is_name;
+use crate::limits::MAX_NAME;
+use crate::name::{begins_as_name, name_run};
 use crate::token::{object_number, plain_number};
-use crate::words::{first_word, only_word};
+use crate::words::{first_word, only_word, without_blanks, word_goes_on};
 
 /// The object that the first word names, and what stands behind it.
 pub fn first_object(bytes: &[u8]) -> Option<(u32, &[u8])>
@@ -47,12 +48,14 @@ pub fn first_name(bytes: &[u8]) -> Option<(&[u8], &[u8])>
     ensures name { IfSome result (λ found. IsName found.0.now) }
     ensures none { IfNone result ((name : List ℕ) (words : List (List ℕ)) → IsName name → words_of bytes.now ≡ name ∷ words → ⊥) }
 {
-    let (word, rest) = first_word(bytes)?;
-    if is_name(word) {
-        Some((word, rest))
-    } else {
-        None
+    let rest = without_blanks(bytes);
+    let end = name_run(rest);
+    let name = &rest[..end];
+    let behind = &rest[end..];
+    if word_goes_on(behind) || end > MAX_NAME || !begins_as_name(name) {
+        return None;
     }
+    Some((name, behind))
 }
 
 /// The name that the one word that there is is.
@@ -61,6 +64,9 @@ pub fn only_name(bytes: &[u8]) -> Option<&[u8]>
     ensures name { IfSome result (λ name. IsName name.now) }
     ensures none { IfNone result ((name : List ℕ) → IsName name → words_of bytes.now ≡ name ∷ [] → ⊥) }
 {
-    let word = only_word(bytes)?;
-    if is_name(word) { Some(word) } else { None }
+    let (name, rest) = first_name(bytes)?;
+    match first_word(rest) {
+        Some(_) => None,
+        None => Some(name),
+    }
 }

@@ -1,5 +1,5 @@
 ghost use Rattle.std.specs.Prelude.{◌≡◌, ◌≤◌, [], ◌∷◌, List, ℕ, false, IfSome, IfNone, length};
-ghost use Rattle.hc_commands.specs.Words.{parts, quoted_behind, words_of, word_end, BeginsWithWord, is_comment, is_skipped};
+ghost use Rattle.hc_commands.specs.Words.{parts, quoted_behind, words_of, word_end, continues, BeginsWithWord, is_comment, is_skipped};
 
 // Whether a byte parts words, inside of quotes or outside.
 fn parts_words(quoted: bool, byte: u8) -> bool
@@ -19,8 +19,8 @@ fn is_quoted_behind(quoted: bool, byte: u8) -> bool
     if byte == b'"' { !quoted } else { quoted }
 }
 
-// The bytes from the first word on.
-fn without_blanks(bytes: &[u8]) -> &[u8]
+/// The bytes from the first word on.
+pub(crate) fn without_blanks(bytes: &[u8]) -> &[u8]
     ensures same { words_of result.now ≡ words_of bytes.now }
     ensures word { BeginsWithWord result.now }
 {
@@ -47,6 +47,16 @@ fn end_of_word(bytes: &[u8]) -> usize
         }
     }
     bytes.len()
+}
+
+/// Whether a word goes on here, outside of quotes.
+pub(crate) fn word_goes_on(bytes: &[u8]) -> bool
+    ensures { result ≡ continues false bytes.now }
+{
+    match bytes {
+        [byte, ..] => !parts_words(false, *byte),
+        [] => false,
+    }
 }
 
 /// The first word, and what stands behind it.

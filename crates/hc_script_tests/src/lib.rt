@@ -1,9 +1,6 @@
-//! Tests of names and of the script: sources that are cut or fail, sinks that fail, lines without a form, and scripts that are
-//! made from a number.
+//! Tests of names and of the script: sources that are cut or fail, sinks that fail, and scripts that are made from a number.
 #![tactic(auto)]
 
-#[cfg(test)]
-mod forms;
 #[cfg(test)]
 mod generated;
 #[cfg(test)]
