@@ -1,18 +1,16 @@
 -- What an inline cache's entry answers is what full lookup answers.
-use Rattle.std.proofs.Common.{◌≡◌, ℕ, ◌<◌, ◌≤◌, Bool, true, false, cond, eqb, eqb-true, ◌&&◌, Option, Some, None, List, [], length, get_or, refl, sym, ap, ◌∙◌, subst, arith, inl, inr}
+use Rattle.std.proofs.Common.{◌≡◌, ℕ, ◌<◌, ◌≤◌, Bool, true, false, cond, eqb, eqb-true, ◌&&◌, Option, Some, None, List, length, refl, sym, ap, ◌∙◌, subst, inl, inr}
 use Rattle.std.specs.Prelude.{◌⊎◌, option_map, slice_get}
 use Rattle.std.proofs.Math.ListN.{get_or-eq_default}
 use Rattle.std.proofs.lemmas.Bool.{cases_lt}
 use Rattle.std.proofs.lemmas.Option.{slice_get_within}
 use Rattle.hc_value.specs.declared.prop.Prop.{Prop}
-use Rattle.hc_value.specs.declared.reply.Reply.{Reply}
 use Rattle.hc_heap.specs.Kept.{GatesAreOpen, UnusedSaysNothing}
 use Rattle.hc_heap.specs.Readings.{map_in}
 use Rattle.hc_heap.specs.Writes.{Trail}
 use Rattle.hc_cells.specs.Chains.{chain_from}
-use Rattle.hc_table.specs.World.{Object, World, new_object, object, place_of, props_at}
+use Rattle.hc_table.specs.World.{Object, World, new_object, object, props_at}
 use Rattle.hc_ops.specs.Get.{get_reply, read_nearest}
-use Rattle.hc_ops.specs.Nearest.{Nearest}
 use Rattle.hc_plan.specs.declared.case.Op.TheVariants.{Load, Store}
 use Rattle.hc_plan.specs.declared.case.Site.{Site}
 use Rattle.hc_sites.specs.State.{cache_at, cache_in}
@@ -25,8 +23,7 @@ use Rattle.hc_modes.specs.Came.{world_of}
 use Rattle.hc_modes.specs.State.{IsObjects, ObjectsState}
 use Rattle.hc_modes.specs.Validity.{protos_of}
 use Rattle.hc_access.specs.Accesses.{site_at}
-use Rattle.hc_access.specs.Entries.{AreGood, IsFound, IsGoodEntry, IsGoodWay, IsOwn, is_cached, is_unbroken, names_map}
-use Rattle.hc_access.specs.Spots.{Place, place_from}
+use Rattle.hc_access.specs.Entries.{AreGood, IsGoodEntry, IsGoodWay, is_unbroken, names_map}
 use Rattle.hc_access.specs.Ways.{IsWayThere, IsWritableAt, read_property, reply_by, way_for}
 use Rattle.hc_access.proofs.Chained.{among-placed}
 use Rattle.hc_access.proofs.Keeping.{AreTold}

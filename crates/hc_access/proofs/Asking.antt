@@ -1,15 +1,13 @@
 -- What asking for a cell leaves, and what may be filled with it.
-use Rattle.std.proofs.Common.{◌≡◌, ℕ, ◌+◌, ◌<◌, ◌≤◌, Bool, true, false, cond, eqb, eqb-true, Option, Some, None, List, ◌∷◌, length, refl, sym, ap, ◌∙◌, subst, arith, inl, inr}
+use Rattle.std.proofs.Common.{◌≡◌, ℕ, ◌+◌, ◌<◌, ◌≤◌, Bool, cond, Option, Some, None, List, length, refl, sym, ap, ◌∙◌, subst, arith, inl, inr}
 use Rattle.std.specs.Prelude.{◌⊎◌, IfSome, IsSome, IsSomeAnd}
 use Rattle.std.proofs.lemmas.Bool.{cases_lt, ne_eqb}
 use Rattle.hc_board.specs.Trail.{Access}
 use Rattle.hc_layout.specs.declared.shape.Region.TheVariants.{Cells}
 use Rattle.hc_layout.specs.declared.words.CellWord.{CellWord}
-use Rattle.hc_value.specs.declared.prop.Prop.{Prop}
 use Rattle.hc_heap.specs.Kept.{GatesAreOpen, UnusedSaysNothing}
 use Rattle.hc_heap.specs.Readings.{gate_in, map_in, validity_in}
 use Rattle.hc_heap.specs.States.{HasRoom, View}
-use Rattle.hc_heap.specs.Writes.{Trail}
 use Rattle.hc_heap.specs.declared.kind.Kind.TheVariants.{StateOfCell}
 use Rattle.hc_cells.specs.Cells.{AreCells, named_cell, valid_cell, with_cell}
 use Rattle.hc_descs.specs.Entries.{LacksName, count_of, entries_in}
@@ -24,10 +22,10 @@ use Rattle.hc_plan.specs.declared.case.Site.{Site}
 use Rattle.hc_sites.specs.declared.cached.CacheWay.{CacheWay}
 use Rattle.hc_sites.specs.declared.cached.CacheWay.TheVariants.{Own, Holder, Absent}
 use Rattle.hc_access.specs.Accesses.{AskedCell}
-use Rattle.hc_access.specs.Entries.{IsBehind, IsFound, IsGoodEntry, IsWatched}
+use Rattle.hc_access.specs.Entries.{IsFound, IsGoodEntry, IsWatched}
 use Rattle.hc_access.specs.Spots.{Place, place_among, place_from}
 use Rattle.hc_access.proofs.Uses.{chain-none}
-use Rattle.hc_access.specs.Ways.{IsSeen, IsWayTo}
+use Rattle.hc_access.specs.Ways.{IsSeen}
 use Rattle.hc_access.proofs.Keeping.{AreTold, StayValid, StaysValid, count-then, lacks-stays, place-from-stays}
 
 -- Cells

@@ -1,5 +1,5 @@
 -- What follows where only loads came first.
-use Rattle.std.proofs.Common.{◌≡◌, ℕ, zero, suc, ◌<◌, Bool, true, false, Option, Some, None, Ok, Err, List, [], ◌∷◌, length, refl, sym, ap, ◌∙◌, subst, inl, inr, arith}
+use Rattle.std.proofs.Common.{◌≡◌, ℕ, zero, suc, ◌<◌, Bool, Option, Some, None, Ok, Err, List, [], ◌∷◌, length, refl, sym, ap, ◌∙◌, subst, inl, inr, arith}
 use Rattle.std.specs.Prelude.{◌⊎◌, IsSome, OnOk, OnErr, Result, if◌then◌else◌, slice_get}
 use Rattle.hc_board.specs.Trail.{Access}
 use Rattle.hc_value.specs.declared.memory.Memory.{Memory}
@@ -17,7 +17,7 @@ use Rattle.hc_sites.specs.declared.state.SiteState.{SiteState}
 use Rattle.hc_slots.specs.Cases.{some-is}
 use Rattle.hc_slots.specs.Meaning.{Dictionary, proto_of}
 use Rattle.hc_table.specs.Changes.{Did, IsThere, Moved}
-use Rattle.hc_table.specs.World.{LeadsToNull, Object, World, object, place_of, property_of, props_at}
+use Rattle.hc_table.specs.World.{LeadsToNull, Object, World, object, place_of, props_at}
 use Rattle.hc_modes.specs.Laws.{with_loads}
 use Rattle.hc_modes.specs.Meaning.{kept_of}
 use Rattle.hc_modes.specs.State.{IsObjects, ObjectsState}

@@ -1,7 +1,8 @@
 -- What the entries of inline caches say stays true over an operation, and over a question for a cell.
-use Rattle.std.proofs.Common.{◌≡◌, ℕ, Option, Some, None, List, [], refl, sym, ap, ◌∙◌, subst}
-use Rattle.std.specs.Prelude.{slice_get}
+use Rattle.std.proofs.Common.{◌≡◌, ℕ, Option, Some, None, List, [], sym, subst}
+use Rattle.std.specs.Prelude.{IsSomeAnd}
 use Rattle.hc_board.specs.Trail.{Access}
+use Rattle.hc_layout.specs.declared.words.CellWord.{CellWord}
 use Rattle.hc_heap.specs.Kept.{GatesAreOpen, UnusedSaysNothing}
 use Rattle.hc_heap.specs.Readings.{map_in, validity_in}
 use Rattle.hc_cells.specs.Cells.{AreCells}
@@ -14,18 +15,15 @@ use Rattle.hc_modes.specs.State.{IsObjects, ObjectsState}
 use Rattle.hc_plan.specs.declared.case.Site.{Site}
 use Rattle.hc_sites.specs.declared.cached.CacheWay.{CacheWay}
 use Rattle.hc_sites.specs.declared.cached.CacheWay.TheVariants.{Own, Holder, Absent}
-use Rattle.hc_modes.specs.Validity.{OnlyCells}
-use Rattle.hc_objects.specs.Came.{Came, Followed}
-use Rattle.hc_objects.specs.Laws.{either-way, followed-shape}
-use Rattle.hc_sites.specs.Events.{noted}
-use Rattle.hc_sites.specs.State.{with_event}
+use Rattle.hc_objects.specs.Came.{Came, SaysStill}
+use Rattle.hc_objects.specs.Laws.{came-shape}
+use Rattle.hc_objects.specs.State.{IsStanding}
 use Rattle.hc_sites.specs.declared.state.SiteState.{SiteState}
 use Rattle.hc_access.specs.Accesses.{AskedCell}
 use Rattle.hc_access.specs.Entries.{AreGood, IsBehind, IsFound, IsGoodWay, IsWatched}
 use Rattle.hc_access.specs.Spots.{Place}
 use Rattle.hc_access.proofs.Asking.{asked-valid, put-all}
-use Rattle.hc_access.proofs.Happening.{noted-good}
-use Rattle.hc_access.proofs.Keeping.{AreTold, and-then, follow-valid, good-stays}
+use Rattle.hc_access.proofs.Keeping.{AreTold, and-then, good-stays, said-valid}
 
 -- Loads
 
@@ -65,12 +63,12 @@ pub maps-stay : {P : Type 0} → MapsAreKept → (a b : ObjectsState P) → IsOb
 maps-stay {P} maps a b sound facts = maps a.heap.view.shape a.heap.view.trail b.heap.view.trail sound.heap.lawful facts.goes
 
 module _ {P : Type 0} (went : P → List Access → List Access → P → Type 0) (gates : GatesAreOpen) (unused : UnusedSaysNothing) (told : AreTold P) (maps : MapsAreKept)
-    (facts : (a b : ObjectsState P) (did : Did) → IsObjects a.heap.view a.kept a.of_null → Came went a did b → FactsStay a.heap.view.shape a.heap.view.trail b.heap.view.trail) where
+    (facts : (a b : ObjectsState P) (did : Did) → IsObjects a.heap.view a.kept a.of_null → Came went a did b → FactsStay a.heap.view.shape a.heap.view.trail b.heap.view.trail)
+    (say : (a b : ObjectsState P) (did : Did) (c : ℕ) (was : CellWord) → IsStanding a → Came went a did b → validity_in a.heap.view.trail c ≡ Some was → IsSomeAnd (validity_in b.heap.view.trail c) (λ now. SaysStill a b was now)) where
   pub came-good : (a b : ObjectsState P) (did : Did) (sites : List SiteState) → IsObjects a.heap.view a.kept a.of_null → IsObjects b.heap.view b.kept b.of_null → AreCells a.heap.view.trail a.heap.view.used → Came went a did b → AreGood a sites → AreGood b sites
-  came-good a b did sites sa sb cells came good = either-way went (AreGood b sites) a b did
-      (λ still bare. still-good a b sites still good)
-      (λ followed. good-stays gates unused told a b sa sb (followed-shape went a b did followed) (maps-stay maps a b sa (facts a b did sa came)) cells (follow-valid a b followed.cells) sites good)
-      came
+  came-good a b did sites sa sb cells came good =
+      good-stays gates unused told a b sa sb (came-shape went a b did came) (maps-stay maps a b sa (facts a b did sa came)) cells
+      (said-valid a b (λ c was is. say a b did c was (record { objects = sa; cells = cells }) came is)) sites good
 
 module _ {P : Type 0} (went : P → List Access → List Access → P → Type 0) (gates : GatesAreOpen) (unused : UnusedSaysNothing) (told : AreTold P) (maps : MapsAreKept) (a b : ObjectsState P)
     (same : world_of b ≡ world_of a) (still : (o : ℕ) → map_in b.heap.view.trail o ≡ map_in a.heap.view.trail o) (facts : FactsStay a.heap.view.shape a.heap.view.trail b.heap.view.trail) where
@@ -84,7 +82,3 @@ pub still-back : {P : Type 0} (a b : ObjectsState P) (sites : List SiteState) �
 still-back {P} a b sites still good =
     let loaded : AreGood (with_loads a b.heap.desk.loads) sites = subst (λ (s : ObjectsState P). AreGood s sites) still.is good in
     λ k state entry at is. way-loaded (with_loads a b.heap.desk.loads) a.heap.desk.loads state.site entry.map entry.cell entry.way (loaded k state entry at is)
-
--- a map that is noted
-pub note-good : {P : Type 0} (s : ObjectsState P) (sites new : List SiteState) (k m : ℕ) → new ≡ with_event sites k (noted m) → AreGood s sites → AreGood s new
-note-good {P} s sites new k m is good = subst (λ (xs : List SiteState). AreGood s xs) (sym is) (noted-good s sites k m good)

@@ -1,9 +1,9 @@
 -- What events at sites leave of their entries.
-use Rattle.std.proofs.Common.{◌≡◌, ℕ, zero, suc, Option, Some, None, List, [], ◌∷◌, refl, sym, ap, ◌∙◌, subst, inl, inr}
+use Rattle.std.proofs.Common.{◌≡◌, ℕ, zero, suc, Some, List, [], ◌∷◌, refl, sym, ap, ◌∙◌, subst, inl, inr}
 use Rattle.std.specs.Prelude.{◌⊎◌, option_map, slice_get}
 use Rattle.hc_modes.specs.State.{ObjectsState}
 use Rattle.hc_plan.specs.declared.case.Site.{Site}
-use Rattle.hc_sites.specs.Events.{Event, noted, filled}
+use Rattle.hc_sites.specs.Events.{Event, filled}
 use Rattle.hc_sites.specs.State.{after_event, with_event}
 use Rattle.hc_sites.specs.declared.cached.Cached.{Cached}
 use Rattle.hc_sites.specs.declared.state.SiteState.{SiteState}
@@ -31,16 +31,6 @@ came-by (x ∷ xs) (suc k) event (suc n) new e = let h = came-by xs k event n ne
 module _ {P : Type 0} (s : ObjectsState P) where
   good-same : (site : Site) (entry : Cached) (other : Site) → site ≡ other → IsGoodEntry s site entry → IsGoodEntry s other entry
   good-same site entry other e h = subst (λ (x : Site). IsGoodEntry s x entry) e h
-
-  -- a note leaves the entries
-  pub noted-good : (sites : List SiteState) (k m : ℕ) → AreGood s sites → AreGood s (with_event sites k (noted m))
-  noted-good sites k m good n state entry at is =
-      let came = came-by sites k (noted m) n state at in
-      by came.old came.was came.now
-    where
-      by : (old : SiteState) → slice_get sites n ≡ Some old → (state ≡ old) ⊎ ((n ≡ k) × (state ≡ after_event old (noted m))) → IsGoodEntry s state.site entry
-      by old was (inl same) = subst (λ (x : SiteState). IsGoodEntry s x.site entry) (sym same) (good n old entry was (ap (λ (x : SiteState). x.cache) (sym same) ∙ is))
-      by old was (inr h) = subst (λ (x : SiteState). IsGoodEntry s x.site entry) (sym h.1) (good n old entry was (ap (λ (x : SiteState). x.cache) (sym h.1) ∙ is))
 
   -- a good entry may be filled
   pub filled-good : (sites : List SiteState) (k : ℕ) (site : Site) (entry : Cached) → site_at sites k ≡ Some site → IsGoodEntry s site entry → AreGood s sites → AreGood s (with_event sites k (filled entry))

@@ -1,18 +1,17 @@
 -- What entries of inline caches say stays true.
-use Rattle.std.proofs.Common.{◌≡◌, ℕ, ◌<◌, ◌≤◌, Bool, true, false, Option, Some, None, List, length, refl, sym, ap, ◌∙◌, subst, arith, inl, inr}
-use Rattle.std.specs.Prelude.{◌⊎◌, IsSome, IsSomeAnd, IsTrue, slice_get}
+use Rattle.std.proofs.Common.{◌≡◌, ℕ, ◌<◌, ◌≤◌, false, Option, Some, None, List, length, refl, sym, ap, ◌∙◌, subst, arith, inl, inr}
+use Rattle.std.specs.Prelude.{◌⊎◌, IsSome, IsSomeAnd}
 use Rattle.std.proofs.lemmas.Bool.{cases_eq}
 use Rattle.hc_layout.specs.declared.words.CellWord.{CellWord}
 use Rattle.hc_layout.specs.declared.words.GateWord.{GateWord}
 use Rattle.hc_layout.specs.declared.shape.Shape.{Shape}
 use Rattle.hc_value.specs.declared.key.Key.{Key}
 use Rattle.hc_value.specs.declared.prop.Prop.{Prop}
-use Rattle.hc_heap.specs.Writes.{Trail}
-use Rattle.hc_heap.specs.Readings.{gate_in, map_in, prototype_in, validity_in}
+use Rattle.hc_heap.specs.Readings.{gate_in, map_in, validity_in}
 use Rattle.hc_heap.specs.Kept.{GatesAreOpen, UnusedSaysNothing}
 use Rattle.hc_cells.specs.Cells.{AreCells}
 use Rattle.hc_cells.specs.Chains.{chain_among, chain_from, has, proto_at}
-use Rattle.hc_descs.specs.Entries.{HasName, HasOtherName, IsFirstNamed, LacksName, count_of, entries_in, key_at}
+use Rattle.hc_descs.specs.Entries.{LacksName, count_of, entries_in, key_at}
 use Rattle.hc_tree.specs.Kept.{MapsStay}
 use Rattle.hc_table.specs.World.{Object, LeadsToNull, object, place_of, props_at}
 use Rattle.hc_slots.specs.Cases.{some-and, some-is, some-of}
@@ -21,19 +20,18 @@ use Rattle.hc_slots.specs.Meaning.{Dictionary, fast_props, prop_in}
 use Rattle.hc_modes.specs.Came.{world_of}
 use Rattle.hc_modes.specs.Meaning.{kept_of}
 use Rattle.hc_modes.specs.State.{IsKeptSo, IsObjects, ObjectsState}
-use Rattle.hc_modes.specs.Validity.{CellFollows, CellsFollow, ChangesOn, StaysPut, goes_through, protos_of, slow_proto}
-use Rattle.hc_plan.specs.declared.case.Op.{Op}
+use Rattle.hc_modes.specs.Validity.{StaysPut, goes_through, protos_of, slow_proto}
+use Rattle.hc_objects.specs.Came.{SaysStill}
 use Rattle.hc_plan.specs.declared.case.Site.{Site}
-use Rattle.hc_sites.specs.declared.cached.Cached.{Cached}
 use Rattle.hc_sites.specs.declared.cached.CacheWay.{CacheWay}
 use Rattle.hc_sites.specs.declared.cached.CacheWay.TheVariants.{Own, Holder, Absent}
 use Rattle.hc_sites.specs.declared.state.SiteState.{SiteState}
-use Rattle.hc_access.specs.Entries.{AdmitsKey, AreGood, IsBehind, IsFound, IsGoodEntry, IsGoodWay, IsOwn, IsWatched}
+use Rattle.hc_access.specs.Entries.{AdmitsKey, AreGood, IsBehind, IsFound, IsGoodWay, IsOwn, IsWatched}
 use Rattle.hc_access.specs.Spots.{Place, place_among, place_from}
 use Rattle.hc_access.proofs.Chained.{among-same, chain-same, chain-there}
 use Rattle.hc_access.proofs.Names.{named}
 use Rattle.hc_access.proofs.Places.{place-same}
-use Rattle.hc_access.proofs.Standing.{fast-is, is-there, length-world, opened}
+use Rattle.hc_access.proofs.Standing.{fast-is, length-world, opened}
 
 -- numbers that can't differ are equal
 same-unless : (x y : Option ℕ) → ((x ≡ y → ⊥) → ⊥) → x ≡ y
@@ -63,23 +61,11 @@ pub and-then : (v : Option CellWord) (A B : CellWord → Type 0) → ((w : CellW
 and-then (Some w) A B f h = f w refl h
 and-then None A B f h = absurd h
 
--- where cells follow what was done
-pub follow-valid : {P : Type 0} (a b : ObjectsState P) → CellsFollow a b → StayValid a b
-follow-valid {P} a b follow c was is = and-then (validity_in b.heap.view.trail c) (λ now. CellFollows a b was now) (StaysValid a b was) by (follow.cells c was is)
-  where
-    never : (now : CellWord) → now.invalid ≡ false → IsTrue now.invalid → ⊥
-    never now off on = let f : true ≡ false = sym on ∙ off in cc
-
-    valid-by : (now : CellWord) → CellFollows a b was now → now.invalid ≡ false → (x : Bool) → was.invalid ≡ x → was.invalid ≡ false
-    valid-by now h off false e = e
-    valid-by now h off true e = absurd (never now off (h.invalid.1 (inl e)))
-
-    by : (now : CellWord) → validity_in b.heap.view.trail c ≡ Some now → CellFollows a b was now → StaysValid a b was now
-    by now here h = record {
-      object = h.object;
-      valid = λ off. valid-by now h off was.invalid refl;
-      put = λ off q through changed. never now off (h.invalid.1 (inr (record { object = q; through = through; changed = changed })));
-    }
+-- where cells say that their chains stay put
+pub said-valid : {P : Type 0} (a b : ObjectsState P) → ((c : ℕ) (was : CellWord) → validity_in a.heap.view.trail c ≡ Some was → IsSomeAnd (validity_in b.heap.view.trail c) (λ now. SaysStill a b was now)) → StayValid a b
+said-valid {P} a b say c was is =
+    and-then (validity_in b.heap.view.trail c) (λ now. SaysStill a b was now) (StaysValid a b was)
+    (λ now here h. record { object = h.object; valid = h.valid; put = λ off q through changed. changed (h.put off q through) }) (say c was is)
 
 module _ {P : Type 0} (gates : GatesAreOpen) (unused : UnusedSaysNothing) (told : AreTold P) (a b : ObjectsState P)
     (sa : IsObjects a.heap.view a.kept a.of_null) (sb : IsObjects b.heap.view b.kept b.of_null) (shape : b.heap.view.shape ≡ a.heap.view.shape) (stay : MapsStay a.heap.view.trail b.heap.view.trail) where

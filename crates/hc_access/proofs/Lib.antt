@@ -5,6 +5,7 @@ mod Standing
 mod Keeping
 mod Uses
 mod Happening
+mod Noting
 mod Lookups
 mod Answering
 mod Writing

@@ -1,18 +1,16 @@
 -- What full lookup finds, as a way of an inline cache.
-use Rattle.std.proofs.Common.{◌≡◌, ℕ, ◌<◌, Bool, true, false, cond, eqb, eq-eqb, Option, Some, None, List, length, refl, sym, ap, ◌∙◌, subst, arith}
+use Rattle.std.proofs.Common.{◌≡◌, ℕ, ◌<◌, Bool, cond, eq-eqb, Option, Some, None, length, refl, sym, ap, ◌∙◌}
 use Rattle.std.proofs.lemmas.Bool.{ne_eqb}
 use Rattle.hc_value.specs.declared.prop.Prop.{Prop}
 use Rattle.hc_heap.specs.Kept.{GatesAreOpen, UnusedSaysNothing}
 use Rattle.hc_cells.specs.Chains.{chain_from}
-use Rattle.hc_table.specs.World.{object, place_of, property_of, props_at}
+use Rattle.hc_table.specs.World.{object, place_of, props_at}
 use Rattle.hc_ops.specs.Nearest.{Nearest, nearest}
 use Rattle.hc_slots.specs.Cases.{some-is}
-use Rattle.hc_slots.specs.Meaning.{Dictionary}
 use Rattle.hc_modes.specs.Came.{world_of}
 use Rattle.hc_modes.specs.Meaning.{kept_of}
 use Rattle.hc_modes.specs.State.{IsObjects, ObjectsState}
 use Rattle.hc_modes.specs.Validity.{protos_of}
-use Rattle.hc_sites.specs.declared.cached.CacheWay.{CacheWay}
 use Rattle.hc_sites.specs.declared.cached.CacheWay.TheVariants.{Own, Holder, Absent}
 use Rattle.hc_access.specs.Accesses.{load_way, own_or_behind, way_behind, where_fast}
 use Rattle.hc_access.specs.Spots.{Place, place_from}

@@ -1,21 +1,21 @@
 -- The properties of an object that has a map have the names of the map's keys.
-use Rattle.std.proofs.Common.{◌≡◌, ◌≢◌, ℕ, ◌+◌, ◌<◌, Option, Some, None, List, length, refl, sym, ap, ◌∙◌, subst, arith}
-use Rattle.std.specs.Prelude.{IsSome, IsSomeAnd}
+use Rattle.std.proofs.Common.{◌≡◌, ◌≢◌, ℕ, ◌<◌, Option, Some, None, sym, ap, ◌∙◌, subst, arith}
+use Rattle.std.specs.Prelude.{IsSomeAnd}
 use Rattle.hc_layout.specs.declared.words.GateWord.{GateWord}
 use Rattle.hc_value.specs.declared.field.Detail.{Detail}
 use Rattle.hc_value.specs.declared.key.Key.{Key}
 use Rattle.hc_value.specs.declared.prop.Prop.{Prop}
 use Rattle.hc_heap.specs.Writes.{Trail}
-use Rattle.hc_heap.specs.Readings.{gate_in, base_in, detail_in}
+use Rattle.hc_heap.specs.Readings.{gate_in, base_in}
 use Rattle.hc_heap.specs.Lawful.{field_from, key_from, slot_word}
 use Rattle.hc_heap.specs.Kept.{GatesAreOpen}
 use Rattle.hc_heap.specs.States.{View, IsHeap}
-use Rattle.hc_descs.specs.Entries.{HasName, HasOtherName, IsFirstNamed, IsOpenMap, LacksName, count_of, detail_at, detail_of, entries_in, key_at}
+use Rattle.hc_descs.specs.Entries.{HasName, HasOtherName, IsFirstNamed, LacksName, count_of, detail_at, detail_of, entries_in, key_at}
 use Rattle.hc_table.specs.World.{place_of}
-use Rattle.hc_slots.specs.Cases.{some-and, some-is, some-of}
+use Rattle.hc_slots.specs.Cases.{some-and, some-is}
 use Rattle.hc_slots.specs.Entries.{EntryIs, entry-is}
 use Rattle.hc_slots.specs.Meaning.{fast_props, prop_in, prop_of}
-use Rattle.hc_access.proofs.Places.{IsFirstOf, place-first, place-found, place-none, place-same}
+use Rattle.hc_access.proofs.Places.{place-first, place-found, place-none}
 use Rattle.hc_slots.specs.Listed.{listed, place-absent}
 
 -- the name of a property, by its key

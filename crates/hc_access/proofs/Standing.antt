@@ -1,20 +1,16 @@
 -- Objects, and where names stand in them, as their words say.
-use Rattle.std.proofs.Common.{◌≡◌, ℕ, ◌<◌, ◌≤◌, Option, Some, None, List, length, refl, sym, ap, ◌∙◌, subst, arith}
-use Rattle.std.specs.Prelude.{IsSome}
+use Rattle.std.proofs.Common.{◌≡◌, ℕ, ◌<◌, ◌≤◌, Option, Some, None, length, refl, sym, ap, ◌∙◌, subst, arith}
 use Rattle.hc_layout.specs.declared.words.GateWord.{GateWord}
-use Rattle.hc_value.specs.declared.prop.Prop.{Prop}
 use Rattle.hc_heap.specs.Writes.{Trail}
 use Rattle.hc_heap.specs.Readings.{gate_in, map_in}
-use Rattle.hc_heap.specs.Kept.{GatesAreOpen, UnusedSaysNothing}
-use Rattle.hc_heap.specs.States.{View, IsHeap}
+use Rattle.hc_heap.specs.Kept.{UnusedSaysNothing}
 use Rattle.hc_heap.specs.declared.kind.Kind.TheVariants.{MapOfObject}
-use Rattle.hc_descs.specs.Entries.{count_of, entries_in}
-use Rattle.hc_table.specs.World.{Object, new_object, object, place_of, props_at}
+use Rattle.hc_table.specs.World.{new_object, object}
 use Rattle.hc_slots.specs.Cases.{some-is}
-use Rattle.hc_slots.specs.Listed.{get_or-listed, length-listed, listed}
-use Rattle.hc_slots.specs.Meaning.{Dictionary, fast_object, fast_props, object_shown, prop_in}
+use Rattle.hc_slots.specs.Listed.{get_or-listed, length-listed}
+use Rattle.hc_slots.specs.Meaning.{Dictionary, fast_object, object_shown}
 use Rattle.hc_modes.specs.Came.{world_of}
-use Rattle.hc_modes.specs.Meaning.{kept_of, object_at, world}
+use Rattle.hc_modes.specs.Meaning.{kept_of, object_at}
 use Rattle.hc_modes.specs.State.{IsKeptSo, IsObjects, ObjectsState}
 
 -- a map's gate is written

@@ -1,6 +1,6 @@
 -- What full lookup finds, by an entry that may be used, and what it may fill.
-use Rattle.std.proofs.Common.{◌≡◌, ℕ, zero, suc, ◌<◌, ◌≤◌, Bool, true, false, Option, Some, None, List, [], length, refl, sym, ap, ◌∙◌, subst, arith}
-use Rattle.std.specs.Prelude.{IsSomeAnd, not, slice_get}
+use Rattle.std.proofs.Common.{◌≡◌, ℕ, zero, suc, ◌<◌, ◌≤◌, Bool, true, false, Option, Some, None, List, [], length, refl, sym, ap, ◌∙◌, arith}
+use Rattle.std.specs.Prelude.{not, slice_get}
 use Rattle.hc_layout.specs.declared.words.CellWord.{CellWord}
 use Rattle.hc_value.specs.declared.prop.Prop.{Prop}
 use Rattle.hc_heap.specs.Readings.{map_in, prototype_in, validity_in}
@@ -18,13 +18,13 @@ use Rattle.hc_modes.specs.Came.{world_of}
 use Rattle.hc_modes.specs.State.{IsObjects, ObjectsState}
 use Rattle.hc_modes.specs.Validity.{protos_of, slow_proto}
 use Rattle.hc_plan.specs.declared.case.Site.{Site}
-use Rattle.hc_access.specs.Entries.{IsBehind, IsFound, IsOwn, IsWatched, is_unbroken}
+use Rattle.hc_access.specs.Entries.{IsBehind, IsFound, IsWatched, is_unbroken}
 use Rattle.hc_access.specs.Spots.{Place, place_among, place_from}
 use Rattle.hc_access.proofs.Chained.{among-placed, nearest-at, nearest-is}
 use Rattle.hc_access.proofs.Keeping.{AreTold}
 use Rattle.hc_access.proofs.Names.{lacks-place, own-place, place-lacks, place-own}
 use Rattle.hc_access.proofs.Places.{place-stands, property-none}
-use Rattle.hc_access.proofs.Standing.{fast-is, length-world, opened}
+use Rattle.hc_access.proofs.Standing.{fast-is, opened}
 
 -- an own property is the nearest
 own-first : (n : ℕ) (w : World) (o name : ℕ) (p : Prop) → 0 < n → property_of (props_at w o) name ≡ Some p → nearest_among n w (Some o) name ≡ Some (record { holder = o; property = p })

@@ -1,5 +1,5 @@
 -- Stores to a writable property of an object's own.
-use Rattle.std.proofs.Common.{◌≡◌, ℕ, ◌<◌, Bool, true, false, cond, eqb, eq-eqb, ◌&&◌, not, Option, Some, None, option_map, length, refl, sym, ap, ◌∙◌, subst, arith}
+use Rattle.std.proofs.Common.{◌≡◌, ℕ, ◌<◌, Bool, true, false, cond, eq-eqb, ◌&&◌, not, Option, Some, None, option_map, length, refl, sym, ap, ◌∙◌, subst, arith}
 use Rattle.std.specs.Prelude.{IsSome, IsSomeAnd, List, slice_get}
 use Rattle.hc_heap.specs.Lawful.{slot_word}
 use Rattle.hc_value.specs.Attrs.{is_read_only}
@@ -20,22 +20,20 @@ use Rattle.hc_heap.specs.Readings.{gate_in, map_in}
 use Rattle.hc_descs.specs.Entries.{IsFirstNamed, entries_in, key_at}
 use Rattle.hc_table.specs.Attributes.{is_datum}
 use Rattle.hc_table.specs.Changes.{Wrote, kind_at}
-use Rattle.hc_table.specs.World.{World, place_of, property_of, props_at}
+use Rattle.hc_table.specs.World.{World, place_of, props_at}
 use Rattle.hc_ops.specs.Act.{answers, does}
-use Rattle.hc_ops.specs.Nearest.{Nearest}
 use Rattle.hc_ops.specs.Set.{act_at, create_act, nearest_act, set_act, write_act, writable_act}
 use Rattle.hc_plan.specs.declared.case.Op.TheVariants.{Store}
-use Rattle.hc_slots.specs.Cases.{some-and, some-is}
-use Rattle.hc_slots.specs.Listed.{listed, slice_get-listed}
-use Rattle.hc_slots.specs.Meaning.{datum_of, fast_props, held_in, pair_of, prop_in}
+use Rattle.hc_slots.specs.Cases.{some-and}
+use Rattle.hc_slots.specs.Listed.{slice_get-listed}
+use Rattle.hc_slots.specs.Meaning.{datum_of, held_in, pair_of, prop_in}
 use Rattle.hc_modes.specs.Came.{world_of}
 use Rattle.hc_modes.specs.State.{IsObjects, ObjectsState}
-use Rattle.hc_access.specs.Accesses.{if_writable, is_writable, writable_place}
+use Rattle.hc_access.specs.Accesses.{is_writable}
 use Rattle.hc_access.specs.Entries.{AdmitsKey, IsOwn}
 use Rattle.hc_access.specs.Ways.{IsWritableAt}
 use Rattle.hc_access.proofs.Keeping.{AreTold}
 use Rattle.hc_access.proofs.Names.{named}
-use Rattle.hc_access.proofs.Places.{place-stands}
 use Rattle.hc_access.proofs.Standing.{opened}
 use Rattle.hc_access.proofs.Uses.{fast-props, first-at, nearest-own, own-at}
 

@@ -1,5 +1,5 @@
 -- What an access makes of its site, and of the objects beside the operation itself.
-use Rattle.std.specs.Prelude.{◌≡◌, ◌⊎◌, ℕ, Bool, true, false, not, ◌&&◌, if◌then◌else◌, nat_lt, List, [], ◌∷◌, Option, Some, None, option_map, slice_get}
+use Rattle.std.specs.Prelude.{◌≡◌, ◌⊎◌, ℕ, Bool, true, false, not, ◌&&◌, if◌then◌else◌, nat_lt, List, [], ◌∷◌, ◌++◌, Option, Some, None, option_map, slice_get}
 use Rattle.hc_board.specs.Trail.{Access}
 use Rattle.hc_value.specs.Attrs.{is_read_only}
 use Rattle.hc_value.specs.declared.prop.Prop.{Prop}
@@ -16,12 +16,13 @@ use Rattle.hc_modes.specs.Validity.{OnlyCells}
 use Rattle.hc_plan.specs.declared.case.Op.{Op}
 use Rattle.hc_plan.specs.declared.case.Op.TheVariants.{Load, Store}
 use Rattle.hc_plan.specs.declared.case.Site.{Site}
-use Rattle.hc_sites.specs.Events.{Event, noted, filled}
+use Rattle.hc_sites.specs.Events.{Event, filled}
 use Rattle.hc_sites.specs.State.{with_event}
 use Rattle.hc_sites.specs.declared.cached.CacheWay.{CacheWay}
 use Rattle.hc_sites.specs.declared.cached.CacheWay.TheVariants.{Own, Holder, Absent}
 use Rattle.hc_sites.specs.declared.state.SiteState.{SiteState}
 use Rattle.hc_access.specs.Entries.{is_cached}
+use Rattle.hc_access.specs.Notes.{maps_at, notes}
 use Rattle.hc_access.specs.Spots.{Place, place_from}
 
 -- the site of a number
@@ -110,30 +111,36 @@ store_fills a o name m = fills_at m (writable_place (world_of a) o name)
 
 -- What happens at the site
 
+-- the receiver's map is noted. At a slow receiver nothing happens
+abbrev pub notes_for : Option ℕ → (ℕ → List Event) → List Event
+notes_for None noting = []
+notes_for (Some m) noting = noting m
+
+abbrev pub note_events : {P : Type 0} → ObjectsState P → List SiteState → ℕ → ℕ → List Event
+note_events a sites s o = notes_for (map_in a.heap.view.trail o) (notes a.heap.view.trail (maps_at sites s))
+
 -- the inline cache stays as it is where it answers
 abbrev pub unless_cached : Bool → List Event → List Event
 unless_cached true events = []
 unless_cached false events = events
 
--- the receiver's map is noted, and the inline cache is filled where it didn't answer. At a slow receiver nothing happens
-abbrev pub events_for : Option ℕ → Bool → (ℕ → List Event) → List Event
-events_for None cached fills = []
-events_for (Some m) cached fills = noted m ∷ unless_cached cached (fills m)
+-- and else it is filled. At a slow receiver it stays as it is too
+abbrev pub fills_for : Option ℕ → Bool → (ℕ → List Event) → List Event
+fills_for None cached fills = []
+fills_for (Some m) cached fills = unless_cached cached (fills m)
 
 abbrev pub load_events : {P : Type 0} → ObjectsState P → List SiteState → ℕ → ℕ → ℕ → List Event
-load_events a sites s o name = events_for (map_in a.heap.view.trail o) (is_cached a.heap.view.trail sites s o) (load_fills a o name)
+load_events a sites s o name =
+    note_events a sites s o ++ fills_for (map_in a.heap.view.trail o) (is_cached a.heap.view.trail sites s o) (load_fills a o name)
 
 abbrev pub store_events : {P : Type 0} → ObjectsState P → List SiteState → ℕ → ℕ → ℕ → List Event
-store_events a sites s o name = events_for (map_in a.heap.view.trail o) (is_cached a.heap.view.trail sites s o) (store_fills a o name)
+store_events a sites s o name =
+    note_events a sites s o ++ fills_for (map_in a.heap.view.trail o) (is_cached a.heap.view.trail sites s o) (store_fills a o name)
 
 -- by the site's operation
 abbrev pub events_at : {P : Type 0} → ObjectsState P → List SiteState → ℕ → ℕ → Op → ℕ → List Event
 events_at a sites s o Load name = load_events a sites s o name
 events_at a sites s o Store name = store_events a sites s o name
-
--- only the receiver's map was noted
-abbrev pub note_events : Option ℕ → List Event
-note_events map = events_for map true (λ m. [])
 
 -- What becomes of the objects
 

@@ -1,5 +1,5 @@
 -- What an entry of an inline cache says, and when it may be used.
-use Rattle.std.specs.Prelude.{◌≡◌, ℕ, ◌<◌, Bool, true, false, ◌&&◌, ◌==◌, Option, Some, None, IsSome, IsSomeAnd, List, slice_get}
+use Rattle.std.specs.Prelude.{◌≡◌, ℕ, Bool, true, false, ◌&&◌, ◌==◌, Option, Some, None, IsSomeAnd, List, slice_get}
 use Rattle.hc_layout.specs.declared.words.CellWord.{CellWord}
 use Rattle.hc_value.specs.Attrs.{is_read_only}
 use Rattle.hc_value.specs.declared.key.Key.{Key}

@@ -1,5 +1,5 @@
 -- What events leave of sites.
-use Rattle.std.proofs.Common.{◌≡◌, ℕ, zero, suc, List, [], ◌∷◌, map, Option, Some, refl, ap, ◌∙◌}
+use Rattle.std.proofs.Common.{◌≡◌, ℕ, zero, suc, List, [], ◌∷◌, map, Some, refl, ap, ◌∙◌}
 use Rattle.hc_plan.specs.declared.case.Site.{Site}
 use Rattle.hc_sites.specs.Events.{Event, noted, forgotten, filled, installed, discarded}
 use Rattle.hc_sites.specs.State.{after_event, with_event}

@@ -1,5 +1,6 @@
 pub mod Spots
 pub mod Entries
+pub mod Notes
 pub mod Accesses
 pub mod Ways
 pub mod Laws

@@ -10,7 +10,7 @@ ghost use Rattle.hc_access.specs.Entries.{AreGood};
 
 use hc_heap::{Pace, gates_are_open, unused_says_nothing};
 use hc_modes::chains_are_told;
-use hc_objects::fields_stay_honest;
+use hc_objects::{fields_stay_honest, valid_cells_say};
 use hc_tree::maps_are_kept;
 
 /// What the entries of inline caches say stays true, whatever an operation does, and the moves that want of memory leaves: as long
@@ -25,6 +25,7 @@ pub fn entries_stay_good<P: Pace>()
     maps_are_kept();
     chains_are_told::<P>();
     fields_stay_honest::<P>();
+    valid_cells_say::<P>();
 }
 
 /// Where a cell was asked for at most one was handed out.

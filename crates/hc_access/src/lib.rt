@@ -5,6 +5,7 @@ mod caches;
 mod fills;
 mod laws;
 mod loads;
+mod notes;
 mod stores;
 
 use hc_value::Reply;

@@ -4,6 +4,7 @@ ghost use Rattle.hc_heap.specs.Readings.{map_in};
 ghost use Rattle.hc_heap.specs.States.{OnlyLoads};
 ghost use Rattle.hc_ops.specs.Get.{get_reply};
 ghost use Rattle.hc_plan.specs.declared.case.Op.TheVariants.{Load};
+ghost use Rattle.hc_modes.specs.State.{IsLive};
 ghost use Rattle.hc_objects.specs.Came.{IsStill, world_of};
 ghost use Rattle.hc_access.specs.Accesses.{Asked, load_events, load_fills, load_way, site_at, with_events};
 ghost use Rattle.hc_access.specs.Entries.{AreGood, is_cached};
@@ -11,6 +12,7 @@ ghost use Rattle.hc_access.specs.Entries.{AreGood, is_cached};
 use crate::Accessed;
 use crate::caches::{read_by, way_for};
 use crate::fills::{fill_by, way_to};
+use crate::notes::note;
 use hc_heap::{Pace, gates_are_open, unused_says_nothing};
 use hc_modes::chains_are_told;
 use hc_objects::Objects;
@@ -19,7 +21,7 @@ use hc_sites::{CacheWay, Sites};
 use hc_value::{Reply, Value};
 
 /// Reads a property at a site. By its inline cache it is a few loads, however long the receiver's chain is; else it is full
-/// lookup, which fills the inline cache. A receiver's map is noted.
+/// lookup, which fills the inline cache. A receiver's map is noted; it isn't deprecated.
 pub fn load<P: Pace>(
     objects: &mut Objects<P>,
     sites: &mut Sites,
@@ -28,6 +30,7 @@ pub fn load<P: Pace>(
     name: u32,
 ) -> Accessed
     requires there { o < length (world_of objects.old) }
+    requires live { IsLive objects.old.heap.view.trail o }
     requires site { site_at sites.old s ≡ Some (record { op = Load; name = name }) }
     requires good { AreGood objects.old sites.old }
     ensures reply { result.reply ≡ get_reply (world_of objects.old) o name }
@@ -35,7 +38,7 @@ pub fn load<P: Pace>(
     ensures sites { sites.new ≡ with_events sites.old s (load_events objects.old sites.old s o name) }
     ensures asked { Asked P.went objects.old objects.new }
     ensures good { AreGood objects.new sites.new }
-    ensures loads { result.by_cache ≡ true → OnlyLoads 24 objects.old.heap.desk objects.new.heap.desk }
+    ensures loads { result.by_cache ≡ true → OnlyLoads 20 objects.old.heap.desk objects.new.heap.desk }
 {
     let Some(map) = objects.map_of(o) else {
         return Accessed {
@@ -43,21 +46,17 @@ pub fn load<P: Pace>(
             reply: get(objects, o, name),
         };
     };
-    match from_cache(objects, sites, s, o, name, map) {
-        Some(reply) => {
-            sites.note(s, map);
-            Accessed {
-                by_cache: true,
-                reply,
-            }
-        }
-        None => {
-            sites.note(s, map);
-            Accessed {
-                by_cache: false,
-                reply: look_up(objects, sites, s, o, name, map),
-            }
-        }
+    let cached = from_cache(objects, sites, s, o, name, map);
+    note(objects, sites, s, map);
+    match cached {
+        Some(reply) => Accessed {
+            by_cache: true,
+            reply,
+        },
+        None => Accessed {
+            by_cache: false,
+            reply: look_up(objects, sites, s, o, name, map),
+        },
     }
 }
 

@@ -7,6 +7,7 @@ ghost use Rattle.hc_ops.specs.Set.{set_act};
 ghost use Rattle.hc_plan.specs.declared.case.Op.TheVariants.{Store};
 ghost use Rattle.hc_table.specs.Changes.{Moved};
 ghost use Rattle.hc_table.specs.Numbers.{IsNameNumber};
+ghost use Rattle.hc_modes.specs.State.{IsLive};
 ghost use Rattle.hc_objects.specs.Came.{Came, IsStill, world_of};
 ghost use Rattle.hc_access.specs.Accesses.{is_writable, note_events, site_at, store_events, store_fills, with_events, writable_place};
 ghost use Rattle.hc_access.specs.Entries.{AreGood, is_cached};
@@ -15,6 +16,7 @@ ghost use Rattle.hc_access.specs.Ways.{IsWritableAt};
 use crate::Accessed;
 use crate::caches::way_for;
 use crate::laws::entries_stay_good;
+use crate::notes::note;
 use hc_heap::{Pace, gates_are_open, unused_says_nothing};
 use hc_modes::chains_are_told;
 use hc_objects::Objects;
@@ -24,7 +26,8 @@ use hc_table::{Tables, read_only};
 use hc_value::{Held, Memory, Prop, Reply, Value};
 
 /// Writes a property at a site. The inline cache answers for a writable property of the receiver's own; else it is full lookup,
-/// which fills the inline cache with such a property. A receiver's map is noted, also where memory is lacking then.
+/// which fills the inline cache with such a property. A receiver's map is noted, also where memory is lacking then; it isn't
+/// deprecated.
 pub fn store<P: Pace>(
     objects: &mut Objects<P>,
     sites: &mut Sites,
@@ -34,6 +37,7 @@ pub fn store<P: Pace>(
     value: Value,
 ) -> Result<Accessed, Memory>
     requires there { o < length (world_of objects.old) }
+    requires live { IsLive objects.old.heap.view.trail o }
     requires name { IsNameNumber name }
     requires range { IsInRange value }
     requires site { site_at sites.old s ≡ Some (record { op = Store; name = name }) }
@@ -43,7 +47,7 @@ pub fn store<P: Pace>(
     ensures came { OnOk result (Came P.went objects.old (set_act (world_of objects.old) o name value).did objects.new) }
     ensures sites { OnOk result (sites.new ≡ with_events sites.old s (store_events objects.old sites.old s o name)) }
     ensures moved { OnErr result (Came P.went objects.old Moved objects.new) }
-    ensures noted { OnErr result (sites.new ≡ with_events sites.old s (note_events (map_in objects.old.heap.view.trail o))) }
+    ensures noted { OnErr result (sites.new ≡ with_events sites.old s (note_events objects.old sites.old s o)) }
     ensures good { AreGood objects.new sites.new }
 {
     entries_stay_good::<P>();
@@ -72,7 +76,7 @@ fn store_noted<P: Pace>(
     ensures came { OnOk result (Came P.went objects.old (set_act (world_of objects.old) o name value).did objects.new) }
     ensures sites { OnOk result (sites.new ≡ with_events sites.old s (store_events objects.old sites.old s o name)) }
     ensures moved { OnErr result (Came P.went objects.old Moved objects.new) }
-    ensures noted { OnErr result (sites.new ≡ with_events sites.old s (note_events (map_in objects.old.heap.view.trail o))) }
+    ensures noted { OnErr result (sites.new ≡ with_events sites.old s (note_events objects.old sites.old s o)) }
     ensures good { AreGood objects.old sites.new }
 {
     let Some(map) = objects.map_of(o) else {
@@ -82,9 +86,10 @@ fn store_noted<P: Pace>(
             reply,
         });
     };
-    match place_in_cache(objects, sites, s, o, name, map) {
+    let cached = place_in_cache(objects, sites, s, o, name, map);
+    note(objects, sites, s, map);
+    match cached {
         Some(place) => {
-            sites.note(s, map);
             let reply = write_own(objects, o, name, place, value)?;
             Ok(Accessed {
                 by_cache: true,
@@ -92,7 +97,6 @@ fn store_noted<P: Pace>(
             })
         }
         None => {
-            sites.note(s, map);
             let reply = store_by_lookup(objects, sites, s, o, name, map, value)?;
             Ok(Accessed {
                 by_cache: false,

@@ -41,8 +41,6 @@ verb_word Finish = codes "finish"
 
 -- the command that begins with it is built
 abbrev pub is_built : Verb → Bool
-is_built Site = false
-is_built Exec = false
 is_built Compile = false
 is_built Step = false
 is_built During = false

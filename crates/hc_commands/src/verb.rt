@@ -102,7 +102,7 @@ impl Verb {
     {
         !matches!(
             self,
-            Verb::Site | Verb::Exec | Verb::Compile | Verb::Step | Verb::During | Verb::Finish
+            Verb::Compile | Verb::Step | Verb::During | Verb::Finish
         )
     }
 }

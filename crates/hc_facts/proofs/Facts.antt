@@ -21,7 +21,7 @@ use Rattle.hc_heap.specs.Readings.{gate_in, bits_in, detail_in, map_in, store_in
 use Rattle.hc_heap.specs.Writes.{Trail}
 use Rattle.hc_descs.specs.Entries.{field_at}
 use Rattle.hc_facts.specs.Constants.{ConstantsStayFor}
-use Rattle.hc_facts.specs.Honest.{HasDatum, IsCarried, IsFilled, IsGiven, IsHonest, IsObjectOf, IsTrueOf, class_by, class_of, detail_for, narrow_rep, value_in}
+use Rattle.hc_facts.specs.Honest.{HasDatum, IsCarried, IsFilled, IsGiven, IsHonest, IsObjectOf, IsTrueOf, class_by, class_of, detail_for, value_in}
 use Rattle.hc_facts.specs.Laws.{WasAt}
 
 -- Orders
@@ -170,31 +170,22 @@ carried-on rise entries forms gates written s old new o m k f d lawful goes maps
     at P None d is h = absurd h
 
 -- an object that came to another map
-pub moved : (old new : Trail) (o c k f : ℕ) (d : Detail) → HasDatum new o c k f → WasAt old new o c k d → slot_word new o k ≡ slot_word old o k → IsCarried old new o k d
-moved old new o c k f d datum it word = record {
+pub moved : (old new : Trail) (o c k f : ℕ) (d : Detail) → HasDatum new o c k f → WasAt old new o c k d → IsCarried old new o k d
+moved old new o c k f d datum it = record {
   map = it.map;
   place = k;
   field = it.field;
   detail = it.detail;
   was = record { has = it.had; gate = it.gate; is_open = it.is_open; within = it.within; key = datum.key; is_key = it.same_key ∙ datum.is_key; datum = datum.datum; field = it.is_field };
   admits = it.admits;
-  within = it.rises.within;
-  same = value-in-place it.detail.rep d.rep (slot_word new o k) it.rises.in_place ∙ ap (value_in it.detail.rep) word;
+  within = it.inside;
+  same = it.same;
 }
-
-narrow-within : (a b : Rep) → IsTrue (is_within (narrow_rep a) b) → IsTrue (is_within a b)
-narrow-within Smi b h = h
-narrow-within HeapObject b h = h
-narrow-within Tagged b h = h
-narrow-within Wide Tagged h = refl
-narrow-within Wide Wide h = refl
-narrow-within Wide Smi h = let n : ⊥ = cc in absurd n
-narrow-within Wide HeapObject h = let n : ⊥ = cc in absurd n
 
 pub given : (old new : Trail) (o k : ℕ) (v : Value) (constness : Constness) (d : Detail) → value_in d.rep (slot_word new o k) ≡ v → IsTrue (is_detail_within (detail_for old v constness) d) → IsGiven old new o k d
 given old new o k v constness d is within =
-    let parts = first-true (is_within (narrow_rep (rep_of v)) d.rep) (is_constness_within constness d.constness) (is_class_within (class_of old v) d.class) within in
-    record { value = v; is = is; rep = narrow-within (rep_of v) d.rep parts.0; class = parts.2 }
+    let parts = first-true (is_within (rep_of v) d.rep) (is_constness_within constness d.constness) (is_class_within (class_of old v) d.class) within in
+    record { value = v; is = is; rep = parts.0; class = parts.2 }
 
 pub storing : (old new : Trail) (o i : ℕ) → ((k : ℕ) → k ≢ i → slot_word new o k ≡ slot_word old o k)
     → ((m f : ℕ) (d : Detail) → HasDatum old o m i f → detail_in new f ≡ Some d → d.constness ≡ Const → slot_word new o i ≡ slot_word old o i) → ConstantsStayFor old new o

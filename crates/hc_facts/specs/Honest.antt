@@ -30,14 +30,9 @@ abbrev pub class_of : Trail → Value → Class
 class_of t (Obj o) = class_by t (map_in t o)
 class_of t _ = Any
 
--- a representation as fields have it so far: integers that aren't small are tagged
-abbrev pub narrow_rep : Rep → Rep
-narrow_rep Wide = Tagged
-narrow_rep r = r
-
 -- what a field has to admit for a value to be held there
 abbrev pub detail_for : Trail → Value → Constness → Detail
-detail_for t v c = record { rep = narrow_rep (rep_of v); constness = c; class = class_of t v }
+detail_for t v c = record { rep = rep_of v; constness = c; class = class_of t v }
 
 -- a value, and undefined where a word gives none
 abbrev pub value_or : Option Value → Value

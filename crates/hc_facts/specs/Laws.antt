@@ -8,7 +8,7 @@ use Rattle.hc_value.specs.declared.field.Constness.TheVariants.{Const}
 use Rattle.hc_value.specs.declared.field.Detail.{Detail}
 use Rattle.hc_value.specs.declared.value.Value.{Value}
 use Rattle.hc_heap.specs.Kept.{GoesOn}
-use Rattle.hc_heap.specs.Lawful.{Lawful, RisesTo, slot_word}
+use Rattle.hc_heap.specs.Lawful.{Lawful, slot_word}
 use Rattle.hc_heap.specs.Readings.{gate_in, bits_in, detail_in, map_in}
 use Rattle.hc_descs.specs.Entries.{key_at, field_at}
 use Rattle.hc_heap.specs.Writes.{Trail}
@@ -24,8 +24,8 @@ abbrev pub KeptIsCarried : Type 0
 KeptIsCarried = (s : Shape) (old new : Trail) (o m k f : ℕ) (d : Detail) → Lawful s old → GoesOn s old new → map_in new o ≡ map_in old o → slot_word new o k ≡ slot_word old o k
     → HasDatum new o m k f → detail_in new f ≡ Some d → IsCarried old new o k d
 
--- the entry of the map that an object had, at the place of an entry of its new map: it has the same key, and its field's detail rose
--- to the new one in place
+-- the entry of the map that an object had, at the place of an entry of its new map: it has the same key, and what its field admitted
+-- the new one does
 pub record WasAt (old new : Trail) (o c k : ℕ) (d : Detail) : Type 0 where
   pub map : ℕ
   pub gate : GateWord
@@ -37,11 +37,12 @@ pub record WasAt (old new : Trail) (o c k : ℕ) (d : Detail) : Type 0 where
   pub same_key : key_at old map k ≡ key_at new c k
   pub is_field : field_at old map k ≡ Some field
   pub admits : detail_in old field ≡ Some detail
-  pub rises : RisesTo detail d
+  pub inside : IsTrue (is_detail_within detail d)
+  pub same : value_in d.rep (slot_word new o k) ≡ value_in detail.rep (slot_word old o k)
 
--- a value of an object that came to another map with the word that it had was there before
+-- a value of an object that came to another map, and has it still at its place, was there before
 abbrev pub MovedIsCarried : Type 0
-MovedIsCarried = (old new : Trail) (o c k f : ℕ) (d : Detail) → HasDatum new o c k f → WasAt old new o c k d → slot_word new o k ≡ slot_word old o k → IsCarried old new o k d
+MovedIsCarried = (old new : Trail) (o c k f : ℕ) (d : Detail) → HasDatum new o c k f → WasAt old new o c k d → IsCarried old new o k d
 
 -- a value that was stored was given, where the field admits what it asks
 abbrev pub StoredIsGiven : Type 0

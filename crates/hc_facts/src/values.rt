@@ -1,15 +1,13 @@
 //! What a field has to admit for a value.
-ghost use Rattle.std.specs.Prelude.{◌≡◌, ◌≢◌};
-ghost use Rattle.hc_value.specs.Field.{IsClassInRange, rep_of};
-ghost use Rattle.hc_value.specs.declared.field.Rep.TheVariants.{Wide};
-ghost use Rattle.hc_value.specs.declared.value.Value.TheVariants.{Int};
+ghost use Rattle.std.specs.Prelude.{◌≡◌};
+ghost use Rattle.hc_value.specs.Field.{IsClassInRange};
 ghost use Rattle.hc_heap.specs.Lawful.{IsClassThere};
 ghost use Rattle.hc_heap.specs.Readings.{map_in};
 ghost use Rattle.hc_heap.specs.States.{Goes, OnlyLoads};
-ghost use Rattle.hc_facts.specs.Honest.{class_by, detail_for, narrow_rep};
+ghost use Rattle.hc_facts.specs.Honest.{class_by, detail_for};
 
 use hc_heap::{Heap, Pace, forms_are_kept};
-use hc_value::{Class, Constness, Detail, Num, Rep, Value, rep_of};
+use hc_value::{Class, Constness, Detail, Rep, Value, rep_of};
 
 /// The class of an object: its map where it has one that isn't unstable, and else any.
 pub fn class_of_object<P: Pace>(h: &mut Heap<P>, object: u32) -> Class
@@ -32,23 +30,9 @@ pub fn class_of_object<P: Pace>(h: &mut Heap<P>, object: u32) -> Class
     Class::Of(map)
 }
 
-// The representation of an integer as fields have it so far: one that isn't small is tagged.
-fn integer_rep(n: Num) -> Rep
-    ensures value { result ≡ narrow_rep (rep_of (Int n)) }
-    ensures narrow { result ≢ Wide }
-{
-    match rep_of(Value::Int(n)) {
-        Rep::Wide => Rep::Tagged,
-        Rep::Smi => Rep::Smi,
-        Rep::HeapObject => Rep::HeapObject,
-        Rep::Tagged => Rep::Tagged,
-    }
-}
-
 /// What a field has to admit for a value that is held there.
 pub fn detail_for<P: Pace>(h: &mut Heap<P>, value: Value, constness: Constness) -> Detail
     ensures detail { result ≡ detail_for h.old.view.trail value constness }
-    ensures narrow { result.rep ≢ Wide }
     ensures form { IsClassInRange result.class }
     ensures there { IsClassThere h.old.view.shape h.old.view.trail result.class }
     ensures same { h.new ≡ record h.old { desk = h.new.desk } }
@@ -57,8 +41,8 @@ pub fn detail_for<P: Pace>(h: &mut Heap<P>, value: Value, constness: Constness) 
     ensures went { P.went h.old.pace h.old.desk.trail h.new.desk.trail h.new.pace }
 {
     match value {
-        Value::Int(n) => Detail {
-            rep: integer_rep(n),
+        Value::Int(_) => Detail {
+            rep: rep_of(value),
             constness,
             class: Class::Any,
         },

@@ -12,8 +12,7 @@ use Rattle.hc_heap.specs.Kept.{DetailsRise, UnusedSaysNothing}
 use Rattle.hc_heap.specs.States.{View}
 use Rattle.hc_descs.specs.Entries.{key_at, field_at, LacksName, detail_of, detail_at}
 use Rattle.hc_tree.specs.Tree.{gate_with}
-use Rattle.hc_tree.specs.Kept.{MapsAreKept}
-use Rattle.hc_modes.specs.Narrow.{NarrowTreesStay}
+use Rattle.hc_tree.specs.Kept.{MapsAreKept, TreesStay}
 use Rattle.hc_tree.specs.Needs.{HasSpace}
 use Rattle.hc_table.specs.Attributes.{IsProper}
 use Rattle.hc_table.specs.World.{Object, object, props_at, place_of, with_list, with_added}
@@ -24,13 +23,10 @@ use Rattle.hc_slots.specs.Meaning.{Dictionary, prop_in, prop_of, slot_word}
 use Rattle.hc_modes.specs.Meaning.{kept_of, world}
 use Rattle.hc_modes.specs.Came.{world_of}
 use Rattle.hc_modes.specs.State.{ObjectsState, IsObjects, tables_of}
-use Rattle.hc_modes.specs.Changes.{Stepped, key_of}
-use Rattle.hc_modes.specs.Filling.{IsMoved, MayGrowBy, with_growth}
+use Rattle.hc_modes.specs.Changes.{SteppedBut, key_of}
+use Rattle.hc_modes.specs.Filling.{GrowthKills, IsMoved, MayGrowBy, with_growth}
 use Rattle.hc_modes.specs.Modes.{IsWithin, add_need}
 use Rattle.hc_modes.proofs.Operations.{grown-step}
-use Rattle.hc_modes.proofs.Rising.{form-between, held-between, not-wide}
-use Rattle.hc_value.specs.Prop.{kind_of}
-use Rattle.hc_value.specs.declared.field.Rep.TheVariants.{Tagged}
 use Rattle.hc_modes.proofs.Shown.{within}
 use Rattle.hc_modes.proofs.Needing.{space-of, may-of, within-of, within-same}
 use Rattle.hc_slots.specs.Cases.{some-is, some-and}
@@ -57,7 +53,7 @@ module _ (v : View) (kept : List (Option Dictionary)) (of_null : Option ℕ) (h 
   pub its-gate : (own : Bool) → (root_in v.trail o).is_proto ≡ own → gate_in v.trail (has-map v kept of_null h o there fast).map ≡ Some (gate_with (has-map v kept of_null h o there fast).gate.entries own)
   its-gate own is =
       let so = has-map v kept of_null h o there fast in
-      let locked : so.gate.is_locked ≡ false = (h.tree.tree.maps so.map so.gate so.fast.is_open).unlocked in
+      let locked : so.gate.is_locked ≡ false = (h.tree.maps so.map so.gate so.fast.is_open).unlocked in
       so.fast.is_open
       ∙ ap (λ (b : Bool). let x : GateWord = record { entries = so.gate.entries; is_private = b; is_locked = so.gate.is_locked } in Some x) (so.fast.private ∙ is)
       ∙ ap (λ (b : Bool). let x : GateWord = record { entries = so.gate.entries; is_private = own; is_locked = b } in Some x) locked
@@ -114,7 +110,7 @@ module _ (v : View) (kept : List (Option Dictionary)) (of_null : Option ℕ) (h 
         (subst (λ (y : View). IsMoved y x o m g.entries p) read moved))
 
   -- the object was moved to a map with one entry more
-  module _ (maps : MapsAreKept) (details : DetailsRise) (trees : NarrowTreesStay) (unused : UnusedSaysNothing) (keeps : ChangesKeep) (x : View) (p : Prop) (shared : (root_in v.trail o).is_proto ≡ false)
+  module _ (maps : MapsAreKept) (details : DetailsRise) (trees : TreesStay) (unused : UnusedSaysNothing) (keeps : ChangesKeep) (x : View) (p : Prop) (shared : (root_in v.trail o).is_proto ≡ false)
       (moved : IsMoved v x o (has-map v kept of_null h o there fast).map (has-map v kept of_null h o there fast).gate.entries p) where
     alone : (q k : ℕ) (g : GateWord) → q ≢ o → map_in x.trail o ≡ Some k → map_in v.trail q ≡ Some k → gate_in x.trail k ≡ Some g → g.is_private ≡ false
     alone q k g other is was gate =
@@ -122,14 +118,13 @@ module _ (v : View) (kept : List (Option Dictionary)) (of_null : Option ℕ) (h 
         let gates : moved.grown.gate ≡ g = some-is moved.grown.gate g (sym moved.grown.is_open ∙ ap (gate_in x.trail) same ∙ gate) in
         sym (ap (λ (y : GateWord). y.is_private) gates) ∙ moved.shared
 
-    step : Stepped v x None o (with_list (object (world v.trail kept) o) (props_at (world v.trail kept) o ++ p ∷ []))
+    step : SteppedBut (GrowthKills v.trail (has-map v kept of_null h o there fast).map p) v x None o (with_list (object (world v.trail kept) o) (props_at (world v.trail kept) o ++ p ∷ []))
     step =
         let so = has-map v kept of_null h o there fast in
-        subst (λ (y : Object). Stepped v x None o (with_list y (y.props ++ p ∷ []))) (sym (is-fast v kept of_null h o there fast))
+        subst (λ (y : Object). SteppedBut (GrowthKills v.trail so.map p) v x None o (with_list y (y.props ++ p ∷ []))) (sym (is-fast v kept of_null h o there fast))
         (grown-step maps details trees unused v kept of_null h o so x moved.child (key_of p) moved.detail p.held moved.changed moved.opens
-        (h.tree.tree.maps so.map so.gate so.fast.is_open).unlocked moved.grown moved.moved (moved.shared ∙ sym (moved.proto ∙ shared)) moved.room moved.words
-        (form-between (kind_of p.held) Tagged moved.detail.rep (slot_word x.trail o so.gate.entries) not-wide moved.narrow moved.form)
-        (held-between (kind_of p.held) moved.detail.rep Tagged (slot_word x.trail o so.gate.entries) moved.narrow not-wide ∙ moved.holds) moved.store moved.owns alone)
+        (h.tree.maps so.map so.gate so.fast.is_open).unlocked moved.grown moved.moved (moved.shared ∙ sym (moved.proto ∙ shared)) moved.room moved.words
+        moved.form moved.holds moved.store moved.owns alone)
 
     same-kept : set kept o None ≡ kept
     same-kept = set-same kept o None there fast
@@ -167,7 +162,7 @@ module _ {P : Type 0} (a b : ObjectsState P) (o : ℕ) (p : Prop) (same : a ≡ 
   call-ready few absent = ready a.heap.view a.kept a.of_null h o there fast-there y m g (again ∙ read) is gate-there shared-there (subst (λ (s : ObjectsState P). length (props_at (world_of s) o) < MAX_FAST) (sym same) few) p.name (absent-there absent)
 
   -- what holds of objects holds again, and the world has the property where there was room
-  module _ (maps : MapsAreKept) (details : DetailsRise) (trees : NarrowTreesStay) (unused : UnusedSaysNothing) (keeps : ChangesKeep) (x : View) where
+  module _ (maps : MapsAreKept) (details : DetailsRise) (trees : TreesStay) (unused : UnusedSaysNothing) (keeps : ChangesKeep) (x : View) where
     moved-here : IsMoved y x o m g.entries p → IsMoved a.heap.view x o (has-map a.heap.view a.kept a.of_null h o there fast-there).map (has-map a.heap.view a.kept a.of_null h o there fast-there).gate.entries p
     moved-here moved = moved-there a.heap.view a.kept a.of_null h o there fast-there y m g (again ∙ read) is gate-there x p moved
 
@@ -180,17 +175,17 @@ module _ {P : Type 0} (a b : ObjectsState P) (o : ℕ) (p : Prop) (same : a ≡ 
 
     -- there was room exactly where the need says so, no more was handed out, and no object became a prototype
     module _ (done : Bool) where
-      pub call-room : (IsTrue done ↔ MayGrowBy y o m g.entries (key_of p)) → IsTrue done ↔ HasSpace b.heap.view (add_need b.heap.view.trail o p)
+      pub call-room : (IsTrue done ↔ MayGrowBy y o m g.entries p) → IsTrue done ↔ HasSpace b.heap.view (add_need b.heap.view.trail o p)
       call-room room = subst (λ (s : ObjectsState P). IsTrue done ↔ HasSpace s.heap.view (add_need s.heap.view.trail o p)) same (
-        λ yes. space-of a.heap.view o m g p is gate-there shared-there (subst (λ (v : View). MayGrowBy v o m g.entries (key_of p)) (again ∙ read) (room.0 yes)),
-        λ space. room.1 (subst (λ (v : View). MayGrowBy v o m g.entries (key_of p)) (sym (again ∙ read)) (may-of a.heap.view o m g p is gate-there shared-there space)),
+        λ yes. space-of a.heap.view o m g p is gate-there shared-there (subst (λ (v : View). MayGrowBy v o m g.entries p) (again ∙ read) (room.0 yes)),
+        λ space. room.1 (subst (λ (v : View). MayGrowBy v o m g.entries p) (sym (again ∙ read)) (may-of a.heap.view o m g p is gate-there shared-there space)),
       )
 
-      pub call-needs : (IsTrue done → x.used ≡ with_growth y.trail o m g.entries (key_of p) y.used) → (done ≡ false → x ≡ y) → IsWithin (add_need b.heap.view.trail o p) b.heap.view.used x.used
+      pub call-needs : (IsTrue done → x.used ≡ with_growth y.trail o m g.entries p y.used) → (done ≡ false → x ≡ y) → IsWithin (add_need b.heap.view.trail o p) b.heap.view.used x.used
       call-needs grown still = subst (λ (s : ObjectsState P). IsWithin (add_need s.heap.view.trail o p) s.heap.view.used x.used) same (by done grown still)
         where
-          by : (d : Bool) → (IsTrue d → x.used ≡ with_growth y.trail o m g.entries (key_of p) y.used) → (d ≡ false → x ≡ y) → IsWithin (add_need a.heap.view.trail o p) a.heap.view.used x.used
-          by true grew stay = within-of a.heap.view o m g p is gate-there shared-there x.used (subst (λ (v : View). x.used ≡ with_growth v.trail o m g.entries (key_of p) v.used) (again ∙ read) (grew refl))
+          by : (d : Bool) → (IsTrue d → x.used ≡ with_growth y.trail o m g.entries p y.used) → (d ≡ false → x ≡ y) → IsWithin (add_need a.heap.view.trail o p) a.heap.view.used x.used
+          by true grew stay = within-of a.heap.view o m g p is gate-there shared-there x.used (subst (λ (v : View). x.used ≡ with_growth v.trail o m g.entries p v.used) (again ∙ read) (grew refl))
           by false grew stay = within-same (add_need a.heap.view.trail o p) a.heap.view.used x.used (ap (λ (v : View). v.used) (stay refl ∙ again ∙ read))
 
       pub call-protos : (IsTrue done → IsMoved y x o m g.entries p) → (done ≡ false → x ≡ y) → (q : ℕ) → (root_in x.trail q).is_proto ≡ (root_in b.heap.view.trail q).is_proto

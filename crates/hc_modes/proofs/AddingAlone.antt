@@ -9,15 +9,14 @@ use Rattle.hc_heap.specs.Readings.{gate_in, map_in, root_in}
 use Rattle.hc_heap.specs.Kept.{DetailsRise, UnusedSaysNothing}
 use Rattle.hc_heap.specs.States.{View}
 use Rattle.hc_descs.specs.Entries.{LacksName}
-use Rattle.hc_tree.specs.Kept.{MapsAreKept}
-use Rattle.hc_modes.specs.Narrow.{NarrowTreesStay}
+use Rattle.hc_tree.specs.Kept.{MapsAreKept, TreesStay}
 use Rattle.hc_table.specs.Attributes.{IsProper}
 use Rattle.hc_table.specs.Changes.{Added}
 use Rattle.hc_table.specs.Kept.{ChangesKeep}
 use Rattle.hc_table.specs.World.{Object, object, place_of, props_at, with_added, with_list}
 use Rattle.hc_modes.specs.Came.{world_of}
 use Rattle.hc_modes.specs.Changes.{Stepped, key_of}
-use Rattle.hc_slots.specs.Meaning.{Dictionary, slot_word}
+use Rattle.hc_slots.specs.Meaning.{Dictionary}
 use Rattle.hc_modes.specs.Meaning.{kept_of, world}
 use Rattle.hc_modes.specs.Privates.{IsGrownAlone}
 use Rattle.hc_slots.specs.Fast.{HasMap}
@@ -26,9 +25,6 @@ use Rattle.hc_modes.proofs.Adding.{few-entries, gate-is, lacks-name, map-is}
 use Rattle.hc_modes.proofs.Alike.{new-alone}
 use Rattle.hc_modes.proofs.Linking.{call-fast, call-gate, call-private, call-there}
 use Rattle.hc_modes.proofs.Operations.{grown-step}
-use Rattle.hc_modes.proofs.Rising.{form-between, held-between, not-wide}
-use Rattle.hc_value.specs.Prop.{kind_of}
-use Rattle.hc_value.specs.declared.field.Rep.TheVariants.{Tagged}
 use Rattle.hc_modes.proofs.Stepping.{set-same, stepped-sound, stepped-world}
 use Rattle.hc_modes.proofs.Writing.{has-map, is-fast}
 
@@ -51,15 +47,14 @@ module _ (v : View) (kept : List (Option Dictionary)) (of_null : Option ℕ) (h 
       (subst (λ (x : ℕ). MayTake v x so.gate.entries name) (map-is v kept of_null h o there fast m is) here))
 
   -- the object came to a copy of its map that has one entry more
-  module _ (private : IsTrue (root_in v.trail o).is_proto) (maps : MapsAreKept) (details : DetailsRise) (trees : NarrowTreesStay) (unused : UnusedSaysNothing) (x : View) (p : Prop) (grown : IsGrownAlone v x o so.map so.gate.entries p) where
+  module _ (private : IsTrue (root_in v.trail o).is_proto) (maps : MapsAreKept) (details : DetailsRise) (trees : TreesStay) (unused : UnusedSaysNothing) (x : View) (p : Prop) (grown : IsGrownAlone v x o so.map so.gate.entries p) where
     step : Stepped v x None o (with_list (object (world v.trail kept) o) (props_at (world v.trail kept) o ++ p ∷ []))
     step =
         let own : IsTrue (root_in x.trail o).is_proto = subst (λ (r : RootWord). IsTrue r.is_proto) (sym (grown.roots o)) private in
         subst (λ (y : Object). Stepped v x None o (with_list y (y.props ++ p ∷ []))) (sym (is-fast v kept of_null h o there fast))
         (grown-step maps details trees unused v kept of_null h o so x v.used.maps (key_of p) grown.detail p.held grown.changed grown.opens
-        (h.tree.tree.maps so.map so.gate so.fast.is_open).unlocked grown.grown grown.moved (grown.private ∙ sym own) grown.room grown.words
-        (form-between (kind_of p.held) Tagged grown.detail.rep (slot_word x.trail o so.gate.entries) not-wide grown.narrow grown.form)
-        (held-between (kind_of p.held) grown.detail.rep Tagged (slot_word x.trail o so.gate.entries) grown.narrow not-wide ∙ grown.holds) grown.store grown.owns
+        (h.tree.maps so.map so.gate so.fast.is_open).unlocked grown.grown grown.moved (grown.private ∙ sym own) grown.room grown.words
+        grown.form grown.holds grown.store grown.owns
         (new-alone maps details unused v kept of_null h o x grown.moved))
 
     same-kept : set kept o None ≡ kept
@@ -95,7 +90,7 @@ module _ {P : Type 0} (a b : ObjectsState P) (o : ℕ) (same : a ≡ b) (h : IsO
   call-may-take few absent = may-take a.heap.view a.kept a.of_null h o there fast-there y m g p.name (again ∙ read) is gate-there
       (subst (λ (s : ObjectsState P). length (props_at (world_of s) o) < MAX_FAST) (sym same) few) (absent-there absent)
 
-  module _ (maps : MapsAreKept) (details : DetailsRise) (trees : NarrowTreesStay) (unused : UnusedSaysNothing) (x : View) where
+  module _ (maps : MapsAreKept) (details : DetailsRise) (trees : TreesStay) (unused : UnusedSaysNothing) (x : View) where
     grown-here : IsGrownAlone y x o m g.entries p → IsGrownAlone a.heap.view x o (has-map a.heap.view a.kept a.of_null h o there fast-there).map (has-map a.heap.view a.kept a.of_null h o there fast-there).gate.entries p
     grown-here grown =
         subst (λ (z : GateWord). IsGrownAlone a.heap.view x o (has-map a.heap.view a.kept a.of_null h o there fast-there).map z.entries p) (sym (gate-is a.heap.view a.kept a.of_null h o there fast-there g m is gate-there))

@@ -18,7 +18,7 @@ use Rattle.hc_heap.specs.States.{View, IsHeap}
 use Rattle.hc_descs.specs.Entries.{entries_in, field_at}
 use Rattle.hc_fields.specs.Fields.{raised, raised_from}
 use Rattle.hc_tree.specs.Details.{WritesDetails}
-use Rattle.hc_modes.specs.Narrow.{IsNarrowTree}
+use Rattle.hc_tree.specs.Tree.{IsTree}
 use Rattle.hc_tree.specs.Kept.{MapsAreKept}
 use Rattle.hc_table.specs.Changes.{kind_at}
 use Rattle.hc_table.specs.World.{props_at}
@@ -89,7 +89,7 @@ module _ (maps : MapsAreKept) (details : DetailsRise) (unused : UnusedSaysNothin
       by (Some y) g is lt = lt
       by None g is lt = let n : ⊥ = cc in absurd n
 
-  module _ (f : ℕ) (d : Detail) (tree : IsNarrowTree (raised v.trail f d)) (heap : IsHeap (record v { trail = raised v.trail f d })) where
+  module _ (f : ℕ) (d : Detail) (tree : IsTree (raised v.trail f d)) (heap : IsHeap (record v { trail = raised v.trail f d })) where
     abbrev then : View
     then = record v { trail = raised v.trail f d }
 

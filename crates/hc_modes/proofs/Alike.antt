@@ -110,5 +110,5 @@ module _ (maps : MapsAreKept) (details : DetailsRise) (unused : UnusedSaysNothin
         opens = opens;
         value =
             ap (λ (x : Option ℕ). object_shown new.trail o None x) moved
-            ∙ fast-alike old.trail new.trail after o so.map so.gate so.fast old.used.maps proto alike (h.tree.tree.maps so.map so.gate so.fast.is_open).unlocked words;
+            ∙ fast-alike old.trail new.trail after o so.map so.gate so.fast old.used.maps proto alike (h.tree.maps so.map so.gate so.fast.is_open).unlocked words;
       }

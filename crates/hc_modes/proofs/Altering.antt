@@ -129,12 +129,12 @@ module _ {P : Type 0} (went : P → List Access → List Access → P → Type 0
     modes = modes;
     needs = within-same (need_of a did) a.heap.view.used b.heap.view.used (ap (λ (h : HeapState P). h.view.used) heap);
     protos = λ p. ap (λ (h : HeapState P). (root_in h.view.trail p).is_proto) heap;
-    marks = words-marks a.heap.view.trail b.heap.view.trail did one (ap (λ (h : HeapState P). h.view.trail) heap);
+    marks = words-marks a.heap.view a.kept b.heap.view.trail did one (ap (λ (h : HeapState P). h.view.trail) heap);
     details = slow-details did a.heap.view a.kept a.of_null b.heap.view.trail one slow (ap (λ (h : HeapState P). h.view.trail) heap);
   }
 
   -- nothing is handed out
-  pub fast-made : (a b : ObjectsState P) (did : Did) → Steps went a did b → b.heap.view.used ≡ a.heap.view.used → ((p : ℕ) → (root_in b.heap.view.trail p).is_proto ≡ (root_in a.heap.view.trail p).is_proto) → MarksOf did a.heap.view.trail b.heap.view.trail → DetailsOf did a.heap.view a.kept a.of_null b.heap.view.trail → Modes a did b → Made went a did b
+  pub fast-made : (a b : ObjectsState P) (did : Did) → Steps went a did b → b.heap.view.used ≡ a.heap.view.used → ((p : ℕ) → (root_in b.heap.view.trail p).is_proto ≡ (root_in a.heap.view.trail p).is_proto) → MarksOf did a.heap.view a.kept b.heap.view.trail → DetailsOf did a.heap.view a.kept a.of_null b.heap.view.trail → Modes a did b → Made went a did b
   fast-made a b did steps used protos marks details modes = record {
     steps = steps;
     modes = modes;
@@ -147,12 +147,12 @@ module _ {P : Type 0} (went : P → List Access → List Access → P → Type 0
   -- an object leaves its map, and then the words stay
   pub left-made : ((a b c : P) (first second third : List Access) → went a first second b → went b second third c → went a first third c)
       → ConstantsStayOn → (a b c : ObjectsState P) (did : Did) → Steps went a Moved b → b.heap.view.used ≡ a.heap.view.used → ((p : ℕ) → (root_in b.heap.view.trail p).is_proto ≡ (root_in a.heap.view.trail p).is_proto)
-      → MarksOf did a.heap.view.trail b.heap.view.trail → DetailsAre GetsNothing a.heap.view.trail b.heap.view.trail → IsOfLeaving did a.heap.view.trail a.kept → Steps went b did c → c.heap ≡ b.heap → Modes a did c → Made went a did c
+      → MarksOf did a.heap.view a.kept b.heap.view.trail → DetailsAre GetsNothing a.heap.view.trail b.heap.view.trail → IsOfLeaving did a.heap.view.trail a.kept → Steps went b did c → c.heap ≡ b.heap → Modes a did c → Made went a did c
   left-made law constants a b c did moved used protos marks details leaves steps heap modes =
       fast-made a c did (steps-on went law constants a b c did moved steps)
       (ap (λ (h : HeapState P). h.view.used) heap ∙ used)
       (λ p. ap (λ (h : HeapState P). (root_in h.view.trail p).is_proto) heap ∙ protos p)
-      (subst (λ (h : HeapState P). MarksOf did a.heap.view.trail h.view.trail) (sym heap) marks)
+      (subst (λ (h : HeapState P). MarksOf did a.heap.view a.kept h.view.trail) (sym heap) marks)
       (left-details did a.heap.view a.kept a.of_null c.heap.view.trail leaves (subst (λ (h : HeapState P). DetailsAre GetsNothing a.heap.view.trail h.view.trail) (sym heap) details))
       modes
 
@@ -169,7 +169,7 @@ module _ {P : Type 0} (went : P → List Access → List Access → P → Type 0
         };
         needs = within-same (need_of a (Put o i p)) a.heap.view.used b.heap.view.used (ap (λ (s : ObjectsState P). s.heap.view.used) still.is);
         protos = λ q. ap (λ (s : ObjectsState P). (root_in s.heap.view.trail q).is_proto) still.is;
-        marks = words-marks a.heap.view.trail b.heap.view.trail (Put o i p) tt (ap (λ (s : ObjectsState P). s.heap.view.trail) still.is);
+        marks = words-marks a.heap.view a.kept b.heap.view.trail (Put o i p) tt (ap (λ (s : ObjectsState P). s.heap.view.trail) still.is);
         details = details-as GetsNothing (ChangedGets a.heap.view.trail a.kept o i p) (λ f d got. absurd (got.other same)) (λ f d got. absurd got)
             (details-none (λ f. ap (λ (s : ObjectsState P). detail_in s.heap.view.trail f) still.is));
       }

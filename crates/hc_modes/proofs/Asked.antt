@@ -22,6 +22,7 @@ use Rattle.hc_slots.specs.Cases.{cond-other, some-is}
 use Rattle.hc_slots.specs.Meaning.{IsConstnessFor}
 use Rattle.hc_modes.specs.Admitting.{held_detail}
 use Rattle.hc_modes.proofs.Admitted.{raised-same}
+use Rattle.hc_modes.proofs.Fitting.{parts}
 
 rep-right : (a b : Rep) → IsTrue (is_within b (join_of a b))
 rep-right Smi Smi = refl
@@ -127,12 +128,6 @@ class-stays (Of m) (Of n) h = ap (λ (t : Bool). cond t (Of m) Any) (eq-eqb m n 
 class-stays (Of m) Any h = let n : ⊥ = cc in absurd n
 class-stays Any (Of n) h = refl
 class-stays Any Any h = refl
-
-pub parts : (x y z : Bool) → IsTrue (x && y && z) → IsTrue x × IsTrue y × IsTrue z
-parts true true true h = (refl, refl, refl)
-parts true true false h = let n : ⊥ = cc in absurd n
-parts true false z h = let n : ⊥ = cc in absurd n
-parts false y z h = let n : ⊥ = cc in absurd n
 
 -- a join with what is admitted already changes nothing
 pub detail-stays : (a b : Detail) → IsTrue (is_detail_within b a) → joined_detail a b ≡ a

@@ -1,6 +1,6 @@
 -- No map is unstable that a prototype has: so it stays after each operation.
-use Rattle.std.proofs.Common.{◌≡◌, ◌≢◌, ℕ, suc, ◌<◌, ◌≤◌, Bool, true, false, List, [], ◌∷◌, Option, Some, None, length, refl, sym, ap, ◌∙◌, subst, arith}
-use Rattle.std.specs.Prelude.{◌⊎◌, IsTrue}
+use Rattle.std.proofs.Common.{◌≡◌, ◌≢◌, ℕ, suc, ◌<◌, ◌≤◌, Bool, true, false, List, [], ◌∷◌, Option, Some, None, length, refl, sym, ap, ◌∙◌, subst, arith, true≢false}
+use Rattle.std.specs.Prelude.{◌⊎◌, IsSomeAnd, IsTrue}
 use Rattle.hc_board.specs.Trail.{Access}
 use Rattle.hc_layout.specs.declared.words.GateWord.{GateWord}
 use Rattle.hc_layout.specs.declared.words.MapBits.{MapBits}
@@ -10,13 +10,14 @@ use Rattle.hc_heap.specs.Readings.{bits_in, gate_in, map_in, root_in}
 use Rattle.hc_heap.specs.Kept.{UnusedSaysNothing}
 use Rattle.hc_heap.specs.States.{View}
 use Rattle.hc_links.specs.Chains.{links_in}
+use Rattle.hc_tree.specs.declared.need.Need.{Need}
 use Rattle.hc_tree.specs.Growth.{marked}
 use Rattle.hc_table.specs.Changes.{Did, Nothing, Moved, Created, Added, Wrote, Reconfigured, Removed, Linked, Locked, Restricted}
-use Rattle.hc_slots.specs.Cases.{same-or, some-is}
+use Rattle.hc_slots.specs.Cases.{same-or, some-and, some-is}
 use Rattle.hc_slots.specs.Meaning.{Dictionary}
-use Rattle.hc_modes.specs.Came.{AreMoves, Became, Came, Effect, IsBecome, IsMarked, IsStill, Left, Marked, MayEnd, Move, marked_before}
+use Rattle.hc_modes.specs.Came.{AreMoves, Became, Came, Effect, Generalised, HasReplaced, IsBecome, IsMarked, IsStill, Left, Marked, MayEnd, Migrated, Move, marked_before}
 use Rattle.hc_modes.specs.Meaning.{cause_in, kept_of}
-use Rattle.hc_modes.specs.Rest.{AreCalm, AreLone, HadProto, HasGone, Marks, Relinks}
+use Rattle.hc_modes.specs.Rest.{AreCalm, AreLone, HadProto, HasDied, HasGone, IsLinkedOrDead, MarksBut, Relinks}
 use Rattle.hc_modes.specs.State.{IsKeptSo, IsObjects, ObjectsState}
 use Rattle.hc_modes.proofs.Left.{marked-same}
 use Rattle.hc_modes.proofs.Marking.{bits-marked}
@@ -27,13 +28,13 @@ use mathlib.Core.Logic.{inl, inr}
 
 module _ (unused : UnusedSaysNothing) (v : View) (kept : List (Option Dictionary)) (of_null : Option ℕ) (h : IsObjects v kept of_null) where
   -- what is there of an object that has a map
-  record HasOne (q m : ℕ) : Type 0 where
+  pub record HasOne (q m : ℕ) : Type 0 where
     pub there : q < length kept
     pub gate : GateWord
     pub is_open : gate_in v.trail m ≡ Some gate
     pub private : gate.is_private ≡ (root_in v.trail q).is_proto
 
-  has-one : (q m : ℕ) → map_in v.trail q ≡ Some m → HasOne q m
+  pub has-one : (q m : ℕ) → map_in v.trail q ≡ Some m → HasOne q m
   has-one q m is = by-there (kept_of kept q) refl
     where
       past : length kept ≤ q → ⊥
@@ -55,9 +56,12 @@ module _ (unused : UnusedSaysNothing) (v : View) (kept : List (Option Dictionary
         let one = has-one q m is_q in
         let other = has-one r m is_r in
         h.alone q r m one.gate one.there other.there is_q is_r one.is_open (one.private ∙ proto);
+    private = λ q m is proto.
+        let one = has-one q m is in
+        subst (λ (x : Option GateWord). IsSomeAnd x (λ y. IsTrue y.is_private)) (sym one.is_open) (one.private ∙ proto);
     bare = λ q m is proto.
         let one = has-one q m is in
-        (h.tree.tree.maps m one.gate one.is_open).unlinked (one.private ∙ proto);
+        (h.tree.maps m one.gate one.is_open).unlinked (one.private ∙ proto);
   }
 
   -- a slow object has no map
@@ -72,15 +76,22 @@ module _ (unused : UnusedSaysNothing) (v : View) (kept : List (Option Dictionary
 
 -- An operation on an object
 
--- what an operation on an object marks has a link, or was the object's map
+-- a prototype's map doesn't die with others
+never-dead : (old new : Trail) (q m : ℕ) → AreLone new → HasDied old new m → map_in new q ≡ Some m → IsTrue (root_in new q).is_proto → ⊥
+never-dead old new q m lone died is proto =
+    let gate = some-and (gate_in new m) (λ g. IsTrue g.is_private) (lone.private q m is proto) in
+    true≢false (sym gate.1.1 ∙ died.shared gate.0 gate.1.0)
+
+-- what an operation on an object marks has a link, or died, or was the object's map
 module _ (old new : Trail) (o : ℕ) (lone_old : AreLone old) (lone_new : AreLone new) (maps : (q : ℕ) → q ≢ o → map_in new q ≡ map_in old q) (protos : (q : ℕ) → q ≢ o → (root_in new q).is_proto ≡ (root_in old q).is_proto)
-    (marks : (m : ℕ) → (bits_in old m).unstable ≡ false → IsTrue (bits_in new m).unstable → (links_in new m ≢ []) ⊎ (map_in old o ≡ Some m)) where
+    (marks : (m : ℕ) → (bits_in old m).unstable ≡ false → IsTrue (bits_in new m).unstable → IsLinkedOrDead old new m ⊎ (map_in old o ≡ Some m)) where
   -- the maps of other prototypes stay stable
   pub others-calm : (q m : ℕ) → q ≢ o → map_in new q ≡ Some m → IsTrue (root_in new q).is_proto → (bits_in old m).unstable ≡ false → (bits_in new m).unstable ≡ false
   others-calm q m other is proto stable = by (bits_in new m).unstable refl
     where
-      either : (links_in new m ≢ []) ⊎ (map_in old o ≡ Some m) → ⊥
-      either (inl links) = links (lone_new.bare q m is proto)
+      either : IsLinkedOrDead old new m ⊎ (map_in old o ≡ Some m) → ⊥
+      either (inl (inl links)) = links (lone_new.bare q m is proto)
+      either (inl (inr died)) = never-dead old new q m lone_new died is proto
       either (inr had) = other (lone_old.apart q o m (sym (maps q other) ∙ is) had (sym (protos q other) ∙ proto))
 
       by : (b : Bool) → (bits_in new m).unstable ≡ b → (bits_in new m).unstable ≡ false
@@ -88,27 +99,28 @@ module _ (old new : Trail) (o : ℕ) (lone_old : AreLone old) (lone_new : AreLon
       by true e = absurd (either (marks m stable e))
 
 -- what `Marks` says of maps that an operation marked
-had : (old new : Trail) (o : ℕ) → Marks old new o → (m : ℕ) → (bits_in old m).unstable ≡ false → IsTrue (bits_in new m).unstable → (links_in new m ≢ []) ⊎ (map_in old o ≡ Some m)
-had old new o h m stable unstable = by (h.marks m stable unstable)
+had : {Dies : ℕ → Type 0} (old new : Trail) (o : ℕ) → MarksBut Dies old new o → (m : ℕ) → (bits_in old m).unstable ≡ false → IsTrue (bits_in new m).unstable → IsLinkedOrDead old new m ⊎ (map_in old o ≡ Some m)
+had {Dies} old new o h m stable unstable = by (h.marks m stable unstable)
   where
-    by : (links_in new m ≢ []) ⊎ HasGone old new o m → (links_in new m ≢ []) ⊎ (map_in old o ≡ Some m)
+    by : IsLinkedOrDead old new m ⊎ HasGone old new o m → IsLinkedOrDead old new m ⊎ (map_in old o ≡ Some m)
     by (inl links) = inl links
     by (inr gone) = inr gone.was
 
-relinks-had : (old new : Trail) (o : ℕ) (proto : Option ℕ) → Relinks old new o proto → (m : ℕ) → (bits_in old m).unstable ≡ false → IsTrue (bits_in new m).unstable → (links_in new m ≢ []) ⊎ (map_in old o ≡ Some m)
+relinks-had : (old new : Trail) (o : ℕ) (proto : Option ℕ) → Relinks old new o proto → (m : ℕ) → (bits_in old m).unstable ≡ false → IsTrue (bits_in new m).unstable → IsLinkedOrDead old new m ⊎ (map_in old o ≡ Some m)
 relinks-had old new o proto h m stable unstable = by (h.marks m stable unstable)
   where
-    by : (links_in new m ≢ []) ⊎ (HasGone old new o m ⊎ HadProto old o m proto) → (links_in new m ≢ []) ⊎ (map_in old o ≡ Some m)
+    by : IsLinkedOrDead old new m ⊎ (HasGone old new o m ⊎ HadProto old o m proto) → IsLinkedOrDead old new m ⊎ (map_in old o ≡ Some m)
     by (inl links) = inl links
     by (inr (inl gone)) = inr gone.was
     by (inr (inr it)) = inr it.was
 
 -- an object that keeps its map
-own-still : (old new : Trail) (o m : ℕ) → AreLone new → Marks old new o → map_in new o ≡ Some m → IsTrue (root_in new o).is_proto → (bits_in old m).unstable ≡ false → (bits_in new m).unstable ≡ false
-own-still old new o m lone h is proto stable = by (bits_in new m).unstable refl
+own-still : {Dies : ℕ → Type 0} (old new : Trail) (o m : ℕ) → AreLone new → MarksBut Dies old new o → map_in new o ≡ Some m → IsTrue (root_in new o).is_proto → (bits_in old m).unstable ≡ false → (bits_in new m).unstable ≡ false
+own-still {Dies} old new o m lone h is proto stable = by (bits_in new m).unstable refl
   where
-    either : (links_in new m ≢ []) ⊎ HasGone old new o m → ⊥
-    either (inl links) = links (lone.bare o m is proto)
+    either : IsLinkedOrDead old new m ⊎ HasGone old new o m → ⊥
+    either (inl (inl links)) = links (lone.bare o m is proto)
+    either (inl (inr died)) = never-dead old new o m lone died is proto
     either (inr gone) = gone.now is
 
     by : (b : Bool) → (bits_in new m).unstable ≡ b → (bits_in new m).unstable ≡ false
@@ -116,8 +128,8 @@ own-still old new o m lone h is proto stable = by (bits_in new m).unstable refl
     by true e = absurd (either (h.marks m stable e))
 
 -- an operation that marks leaves prototypes calm
-pub marks-calm : (old new : Trail) (o : ℕ) → AreLone old → AreLone new → Marks old new o → ((q : ℕ) → (root_in new q).is_proto ≡ (root_in old q).is_proto) → AreCalm old → AreCalm new
-marks-calm old new o lone_old lone_new h protos calm q m is proto = same-or q o ((bits_in new m).unstable ≡ false)
+pub marks-calm : {Dies : ℕ → Type 0} (old new : Trail) (o : ℕ) → AreLone old → AreLone new → MarksBut Dies old new o → ((q : ℕ) → (root_in new q).is_proto ≡ (root_in old q).is_proto) → AreCalm old → AreCalm new
+marks-calm {Dies} old new o lone_old lone_new h protos calm q m is proto = same-or q o ((bits_in new m).unstable ≡ false)
     (λ same. here (subst (λ (x : ℕ). map_in new x ≡ Some m) same is) (subst (λ (x : ℕ). IsTrue (root_in new x).is_proto) same proto))
     (λ other. others-calm old new o lone_old lone_new h.maps (λ r e. protos r) (had old new o h) q m other is proto (calm q m (sym (h.maps q other) ∙ is) (sym (protos q) ∙ proto)))
   where
@@ -147,6 +159,8 @@ relinks-calm old new o proto lone_old lone_new h protos calm q m is has = same-o
 marked-lone : (t : Trail) (m : ℕ) → AreLone t → AreLone (marked t m)
 marked-lone t m lone = record {
   apart = λ q r x is_q is_r proto. lone.apart q r x (sym (map-same q) ∙ is_q) (sym (map-same r) ∙ is_r) (sym (root-same q) ∙ proto);
+  private = λ q x is proto.
+      subst (λ (y : Option GateWord). IsSomeAnd y (λ z. IsTrue z.is_private)) (sym (marked-same t m (λ (u : Trail). gate_in u x) (λ b. refl))) (lone.private q x (sym (map-same q) ∙ is) (sym (root-same q) ∙ proto));
   bare = λ q x is proto. marked-same t m (λ (u : Trail). links_in u x) (λ b. refl) ∙ lone.bare q x (sym (map-same q) ∙ is) (sym (root-same q) ∙ proto);
 }
   where
@@ -198,11 +212,11 @@ module _ {P : Type 0} (went : P → List Access → List Access → P → Type 0
   trail-still a b still = ap (λ (s : ObjectsState P). s.heap.view.trail) still.is
 
   -- an operation by itself, after nothing
-  own-calm : (a mid b : ObjectsState P) (o : ℕ) → IsStill a mid → AreLone a.heap.view.trail → AreLone b.heap.view.trail → Marks mid.heap.view.trail b.heap.view.trail o → ((q : ℕ) → (root_in b.heap.view.trail q).is_proto ≡ (root_in mid.heap.view.trail q).is_proto)
+  own-calm : {Dies : ℕ → Type 0} (a mid b : ObjectsState P) (o : ℕ) → IsStill a mid → AreLone a.heap.view.trail → AreLone b.heap.view.trail → MarksBut Dies mid.heap.view.trail b.heap.view.trail o → ((q : ℕ) → (root_in b.heap.view.trail q).is_proto ≡ (root_in mid.heap.view.trail q).is_proto)
       → AreCalm a.heap.view.trail → AreCalm b.heap.view.trail
-  own-calm a mid b o still lone_a lone_b marks protos calm =
+  own-calm {Dies} a mid b o still lone_a lone_b marks protos calm =
       let same = trail-still a mid still in
-      marks-calm a.heap.view.trail b.heap.view.trail o lone_a lone_b (subst (λ (t : Trail). Marks t b.heap.view.trail o) same marks)
+      marks-calm a.heap.view.trail b.heap.view.trail o lone_a lone_b (subst (λ (t : Trail). MarksBut Dies t b.heap.view.trail o) same marks)
       (λ q. protos q ∙ ap (λ (t : Trail). (root_in t q).is_proto) same) calm
 
   link-calm : (a mid b : ObjectsState P) (o : ℕ) (proto : Option ℕ) → IsStill a mid → AreLone a.heap.view.trail → AreLone b.heap.view.trail → Relinks mid.heap.view.trail b.heap.view.trail o proto → ((q : ℕ) → (root_in b.heap.view.trail q).is_proto ≡ (root_in mid.heap.view.trail q).is_proto)
@@ -212,6 +226,12 @@ module _ {P : Type 0} (went : P → List Access → List Access → P → Type 0
       relinks-calm a.heap.view.trail b.heap.view.trail o proto lone_a lone_b (subst (λ (t : Trail). Relinks t b.heap.view.trail o proto) same relinks)
       (λ q. protos q ∙ ap (λ (t : Trail). (root_in t q).is_proto) same) calm
 
+  -- an object came to a map in the place of its own
+  replaced-calm : {Dies : ℕ → Type 0} {need : Need} (a mid b : ObjectsState P) (o : ℕ) → HasReplaced went Dies need a o mid → IsStill mid b → AreLone a.heap.view.trail → AreLone b.heap.view.trail → AreCalm a.heap.view.trail → AreCalm b.heap.view.trail
+  replaced-calm a mid b o it still lone_a lone_b calm =
+      let same = trail-still mid b still in
+      subst AreCalm (sym same) (marks-calm a.heap.view.trail mid.heap.view.trail o lone_a (subst AreLone same lone_b) it.marks it.protos calm)
+
   -- moves and nothing else
   moves-calm : (a b : ObjectsState P) (moves : List Move) → length moves ≤ 1 → MayEnd moves → AreMoves went a moves b → AreLone a.heap.view.trail → AreLone b.heap.view.trail → AreCalm a.heap.view.trail → AreCalm b.heap.view.trail
   moves-calm a b [] few ends are lone_a lone_b calm = subst AreCalm (sym (trail-still a b are)) calm
@@ -220,8 +240,12 @@ module _ {P : Type 0} (went : P → List Access → List Access → P → Type 0
   moves-calm a b (Left o cause ∷ []) few ends are lone_a lone_b calm =
       let same = trail-still are.0 b are.2 in
       subst AreCalm (sym same) (marks-calm a.heap.view.trail are.0.heap.view.trail o lone_a (subst AreLone same lone_b) are.1.marks are.1.protos calm)
+  moves-calm a b (Migrated o ∷ []) few ends are lone_a lone_b calm = replaced-calm a are.0 b o are.1.replaced are.2 lone_a lone_b calm
+  moves-calm a b (Generalised o i held ∷ []) few ends are lone_a lone_b calm = replaced-calm a are.0 b o are.1.replaced are.2 lone_a lone_b calm
   moves-calm a b (Became p ∷ move ∷ moves) few ends are lone_a lone_b calm = absurd (omega (arith, few))
   moves-calm a b (Left o cause ∷ move ∷ moves) few ends are lone_a lone_b calm = absurd (omega (arith, few))
+  moves-calm a b (Migrated o ∷ move ∷ moves) few ends are lone_a lone_b calm = absurd (omega (arith, few))
+  moves-calm a b (Generalised o i held ∷ move ∷ moves) few ends are lone_a lone_b calm = absurd (omega (arith, few))
 
   -- an operation with the moves before it
   created-calm : (a b : ObjectsState P) (proto : Option ℕ) → Effect went a (Created proto) b → AreLone a.heap.view.trail → AreLone b.heap.view.trail → AreCalm a.heap.view.trail → AreCalm b.heap.view.trail
@@ -246,8 +270,8 @@ module _ {P : Type 0} (went : P → List Access → List Access → P → Type 0
       by (Some c) None moves = one moves
       by (Some c) (Some d) moves = one moves
 
-  alone-calm : (a b : ObjectsState P) (did : Did) (o : ℕ) → (it : Effect went a did b) → IsStill a it.mid → Marks it.mid.heap.view.trail b.heap.view.trail o → AreLone a.heap.view.trail → AreLone b.heap.view.trail → AreCalm a.heap.view.trail → AreCalm b.heap.view.trail
-  alone-calm a b did o it still marks lone_a lone_b calm = own-calm a it.mid b o still lone_a lone_b marks it.own.protos calm
+  alone-calm : {Dies : ℕ → Type 0} (a b : ObjectsState P) (did : Did) (o : ℕ) → (it : Effect went a did b) → IsStill a it.mid → MarksBut Dies it.mid.heap.view.trail b.heap.view.trail o → AreLone a.heap.view.trail → AreLone b.heap.view.trail → AreCalm a.heap.view.trail → AreCalm b.heap.view.trail
+  alone-calm {Dies} a b did o it still marks lone_a lone_b calm = own-calm a it.mid b o still lone_a lone_b marks it.own.protos calm
 
   pub came-calm : (a b : ObjectsState P) (did : Did) → AreLone a.heap.view.trail → AreLone b.heap.view.trail → Came went a did b → AreCalm a.heap.view.trail → AreCalm b.heap.view.trail
   came-calm a b Nothing lone_a lone_b h calm = subst AreCalm (sym (trail-still a b h)) calm

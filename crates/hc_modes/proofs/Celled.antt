@@ -8,7 +8,7 @@ use Rattle.hc_layout.specs.declared.shape.Shape.{Shape}
 use Rattle.hc_layout.specs.declared.words.CellWord.{CellWord}
 use Rattle.hc_layout.specs.declared.words.StoreWord.{StoreWord}
 use Rattle.hc_heap.specs.Writes.{Write, Trail, ObjectCell, Validity}
-use Rattle.hc_heap.specs.Readings.{bits_in, gate_in, map_in, parent_in, prototype_in, root_in, slot_in, store_in}
+use Rattle.hc_heap.specs.Readings.{gate_in, map_in, parent_in, prototype_in, root_in, slot_in, store_in}
 use Rattle.hc_heap.specs.Kept.{Adds, DetailsRise, GoesOn, UnusedSaysNothing}
 use Rattle.hc_heap.specs.Lawful.{Lawful}
 use Rattle.hc_heap.specs.Frames.{adds-none, adds-on, adds-one, goes-on-of, same-after}
@@ -17,8 +17,8 @@ use Rattle.hc_cells.specs.Cells.{Invalidates, named_cell, valid_cell, with_cell}
 use Rattle.hc_cells.specs.Chains.{Ends, HaveEnds, proto_at, proto_by, proto_said}
 use Rattle.hc_facts.specs.Laws.{HonestAfter, KeptIsCarried}
 use Rattle.hc_tree.specs.Growth.{root_of}
-use Rattle.hc_tree.specs.Kept.{MapsAreKept, TreeIsSame}
-use Rattle.hc_modes.specs.Narrow.{IsNarrowTree, NarrowTreesStay}
+use Rattle.hc_tree.specs.Kept.{MapsAreKept, TreeIsSame, TreesStay}
+use Rattle.hc_tree.specs.Tree.{IsTree}
 use Rattle.hc_table.specs.Kept.{Kept, IsKept}
 use Rattle.hc_table.specs.World.{LeadsToNull, Object, World, new_object, object}
 use Rattle.hc_slots.specs.Listed.{get_or-listed, length-listed, listed-same}
@@ -38,7 +38,7 @@ use Rattle.hc_modes.proofs.Worlds.{length-world, object-world}
 
 -- What such writes leave
 
-by-cells : {T : Type 0} (reading : Trail → T) → ((t : Trail) (p : ℕ) (c : Option ℕ) → reading (ObjectCell p c ∷ t) ≡ reading t) → ((t : Trail) (c : ℕ) (v : CellWord) → reading (Validity c v ∷ t) ≡ reading t)
+pub by-cells : {T : Type 0} (reading : Trail → T) → ((t : Trail) (p : ℕ) (c : Option ℕ) → reading (ObjectCell p c ∷ t) ≡ reading t) → ((t : Trail) (c : ℕ) (v : CellWord) → reading (Validity c v ∷ t) ≡ reading t)
     → (t : Trail) (w : Write) → WritesCells t w → reading (w ∷ t) ≡ reading t
 by-cells reading named cell t (ObjectCell p c) e = named t p c
 by-cells reading named cell t (Validity c v) e = cell t c v
@@ -52,7 +52,7 @@ tree-by first t _ e same = absurd e
 tree-none : (t : Trail) → TreeIsSame t t
 tree-none t = record { links = λ m. refl; gates = λ m. refl; lives = λ m. refl; roots = λ o. refl; details = λ f. refl; arrays = λ n. refl; bases = λ n. refl; keys = λ e. refl; references = λ e. refl }
 
-module _ (maps : MapsAreKept) (details : DetailsRise) (trees : NarrowTreesStay) (v x : View) (kept : List (Option Dictionary)) (null : Option ℕ) (h : IsObjects v kept null) (writes : Adds WritesCells v.trail x.trail) (heap : IsHeap x) (shape : x.shape ≡ v.shape)
+module _ (maps : MapsAreKept) (details : DetailsRise) (trees : TreesStay) (v x : View) (kept : List (Option Dictionary)) (null : Option ℕ) (h : IsObjects v kept null) (writes : Adds WritesCells v.trail x.trail) (heap : IsHeap x) (shape : x.shape ≡ v.shape)
     (used : x.used ≡ record v.used { cells = x.used.cells }) where
   same : {T : Type 0} (reading : Trail → T) → ((t : Trail) (p : ℕ) (c : Option ℕ) → reading (ObjectCell p c ∷ t) ≡ reading t) → ((t : Trail) (c : ℕ) (w : CellWord) → reading (Validity c w ∷ t) ≡ reading t) → reading x.trail ≡ reading v.trail
   same reading named cell = same-after reading (by-cells reading named cell) writes
@@ -83,7 +83,7 @@ module _ (maps : MapsAreKept) (details : DetailsRise) (trees : NarrowTreesStay) 
   after : IsLater v.trail x.trail
   after = later maps details v.shape v.trail x.trail h.heap.lawful goes
 
-  pub celled-tree : IsNarrowTree x.trail
+  pub celled-tree : IsTree x.trail
   celled-tree = trees v.shape v.trail x.trail h.heap.lawful goes (kept-after (TreeIsSame v.trail) (tree-by v.trail) writes (tree-none v.trail)) h.tree
 
   pub celled-world : world x.trail kept ≡ world v.trail kept
@@ -114,7 +114,6 @@ module _ (maps : MapsAreKept) (details : DetailsRise) (trees : NarrowTreesStay) 
   celled-sound = record {
     heap = heap;
     tree = celled-tree;
-    live = λ m. same (λ (t : Trail). (bits_in t m).deprecated) (λ t p c. refl) (λ t c w. refl) ∙ h.live m;
     roots = celled-roots;
     items = h.items ∙ sym (ap (λ (s : Shape). s.objects) used);
     each = λ o lt. kept-still v.trail x.trail after o (kept_of kept o) (words o) (h.each o lt);

@@ -1,5 +1,5 @@
 -- The child of an object's map is there, before the object comes to it.
-use Rattle.std.proofs.Common.{◌≡◌, ℕ, ◌+◌, ◌<◌, ◌≤◌, Bool, true, false, cond, List, [], ◌∷◌, Option, Some, None, IsSome, refl, sym, ap, ◌∙◌, subst, arith}
+use Rattle.std.proofs.Common.{◌≡◌, ◌≢◌, ◌⊎◌, ℕ, zero, suc, ◌+◌, ◌<◌, ◌≤◌, Bool, true, false, cond, List, [], ◌∷◌, ◌++◌, Option, Some, None, refl, sym, ap, ◌∙◌, subst, arith, inl, inr, ⊎_elim}
 use Rattle.std.specs.Prelude.{IsSomeAnd, IsTrue}
 use Rattle.hc_layout.specs.declared.shape.Shape.{Shape}
 use Rattle.hc_layout.specs.declared.shape.Region.TheVariants.{Slots}
@@ -7,96 +7,98 @@ use Rattle.hc_layout.specs.declared.words.GateWord.{GateWord}
 use Rattle.hc_layout.specs.declared.words.StoreWord.{StoreWord}
 use Rattle.hc_value.specs.declared.key.Key.{Key}
 use Rattle.hc_value.specs.declared.prop.Prop.{Prop}
-use Rattle.hc_heap.specs.Writes.{Trail, FieldDetail}
+use Rattle.hc_heap.specs.Writes.{Trail, Write}
 use Rattle.hc_heap.specs.Readings.{gate_in, parent_in, bits_in, detail_in, map_in, owner_in, root_in, store_in, slot_in}
-use Rattle.hc_heap.specs.Lawful.{IsField, Lawful, HoldsEntries, word_from}
+use Rattle.hc_heap.specs.Lawful.{Lawful, HoldsEntries, word_from}
 use Rattle.hc_heap.specs.Kept.{Adds, DetailsRise, UnusedSaysNothing}
-use Rattle.hc_heap.specs.Frames.{adds-none, adds-one, adds-on, adds-wider, same-after, goes-on-of, goes-still}
+use Rattle.hc_heap.specs.Frames.{adds-wider, same-after, goes-on-of}
 use Rattle.hc_heap.specs.States.{View, IsHeap, HasRoom}
 use Rattle.hc_links.specs.Chains.{links_in, newest_of}
 use Rattle.hc_links.specs.Laws.{LinkedAreUnstable}
 use Rattle.hc_descs.specs.Entries.{count_of, detail_at, detail_of, field_at}
-use Rattle.hc_fields.specs.Fields.{raised, raised_from}
-use Rattle.hc_value.specs.Field.{is_detail_within, joined_detail}
+use Rattle.hc_value.specs.Field.{is_detail_within}
+use Rattle.hc_value.specs.declared.field.Constness.TheVariants.{Const}
 use Rattle.hc_value.specs.declared.field.Detail.{Detail}
-use Rattle.hc_tree.specs.Details.{DetailsAre, NoMap, Reshapes, child_detail}
-use Rattle.hc_tree.specs.Dying.{LiveIsChild, OutgrownFor}
-use Rattle.hc_tree.specs.Frames.{reshapes-dies, reshapes-grow}
-use Rattle.hc_tree.specs.Tree.{IsChildFor, IsNarrow, IsTree, gate_with}
-use Rattle.hc_modes.specs.Narrow.{IsNarrowTree}
-use Rattle.hc_modes.specs.Linking.{GrowsTree}
+use Rattle.hc_tree.specs.Details.{NoMap, Reshapes, joins_in_place}
+use Rattle.hc_tree.specs.Dying.{HaveDied, LiveIsChild, OutgrownFor}
+use Rattle.hc_tree.specs.Tree.{IsTree, IsChildFor, gate_with}
+use Rattle.hc_tree.specs.Walking.{above, ancestor, parent_of}
 use Rattle.hc_tree.specs.Kept.{MapsAreKept}
 use Rattle.hc_tree.specs.Needs.{with_need}
-use Rattle.hc_tree.specs.Growth.{AskGets, MakesMap, EndsWith, asked_detail, fitting_child, live_of, live_child, child_need, marked}
-use Rattle.hc_slots.specs.Meaning.{slot_word}
+use Rattle.hc_tree.specs.Growth.{AskGets, EndsWith, asked_detail, child_need, fit_of, fitting_child, live_of, live_child, marked}
+use Rattle.hc_slots.specs.Meaning.{MayHold, slot_word}
 use Rattle.hc_slots.specs.Fast.{IsFast}
 use Rattle.hc_slots.specs.Slots.{IsIn, Owns, AreHandedOut, slots_need}
-use Rattle.hc_modes.specs.Rest.{MarksAt}
-use Rattle.hc_modes.proofs.Marking.{makes-at, marked-already}
-use Rattle.hc_modes.specs.Changes.{WordsStay, Changed, OpensNoRoot, key_of}
-use Rattle.hc_modes.specs.Admitting.{IsGrownBy}
-use Rattle.hc_modes.specs.Filling.{IsMoved, with_growth, with_slots}
+use Rattle.hc_modes.specs.Rest.{IsLinkedOrDead}
+use Rattle.hc_modes.proofs.Marking.{marked-already}
+use Rattle.hc_modes.specs.Changes.{WordsStay, ChangedBut, OpensNoRoot, key_of}
+use Rattle.hc_modes.specs.Admitting.{IsGrownBy, held_detail}
+use Rattle.hc_modes.specs.Filling.{IsMovedBut, with_growth, with_slots}
 use Rattle.hc_slots.specs.Cases.{some-and, some-of, not-both, some-is}
 use Rattle.hc_modes.proofs.Asked.{child-asks}
-use Rattle.hc_modes.proofs.Narrowing.{ask-narrow, fit-whole, narrow-by, narrow-fits}
 use Rattle.hc_modes.proofs.Sound.{is-later}
+use Rattle.hc_modes.proofs.Sparing.{live-stays}
 use Rattle.hc_modes.proofs.Staying.{IsLater, later, fits-still}
 use Rattle.hc_modes.proofs.Found.{reshapes-touches, map-grown, proto-grown, store-grown, slot-grown}
-use Rattle.hc_modes.proofs.Owning.{open-used}
-use Rattle.hc_modes.proofs.Steps.{child-no-root, grown-child, reshapes-gate, reshapes-none, reshapes-one}
+use Rattle.hc_modes.proofs.Steps.{child-no-root, grown-child, reshapes-none, reshapes-one}
 use Rattle.hc_modes.proofs.Touching.{changed-on}
 
--- the live child of a map for a key was found or made
+-- the live child of a map for a key was found, or one was made
 pub record IsChilded (v w : View) (m n c : ℕ) (key : Key) (d : Detail) : Type 0 where
-  pub writes : Adds (Reshapes v.used NoMap (AskGets v.trail m key d v.used.fields)) v.trail w.trail
+  pub writes : Adds (Reshapes v.used (OutgrownFor v.trail m key d) (AskGets v.trail m key d v.used.fields)) v.trail w.trail
   pub shape : w.shape ≡ v.shape
-  pub used : w.used ≡ with_need (child_need (live_child v.trail m key) n) v.used
-  pub number : live_child v.trail m key ≡ None → c ≡ v.used.maps
-  pub found : (x : ℕ) → live_child v.trail m key ≡ Some x → c ≡ x
+  pub used : w.used ≡ with_need (child_need (fitting_child v.trail m key d) n) v.used
+  pub number : fitting_child v.trail m key d ≡ None → c ≡ v.used.maps
+  pub found : (x : ℕ) → fitting_child v.trail m key d ≡ Some x → c ≡ x
   pub live : live_child w.trail m key ≡ Some c
   pub child : IsSomeAnd (gate_in w.trail m) (λ g. IsChildFor w.trail m g c key)
-  pub ends : EndsWith w.trail c n key (child_detail v.trail (live_child v.trail m key) n d)
-  pub tree : IsNarrowTree w.trail
+  pub ends : EndsWith w.trail c n key (asked_detail v.trail m key d)
+  pub dead : HaveDied (OutgrownFor v.trail m key d) v.trail w.trail
+  pub marks : (x : ℕ) → (bits_in v.trail x).unstable ≡ false → IsTrue (bits_in w.trail x).unstable → (x ≡ m) ⊎ (OutgrownFor v.trail m key d x × IsTrue (bits_in w.trail x).deprecated)
+  pub tree : IsTree w.trail
   pub heap : IsHeap w
 
-some-detail : (t : Trail) (o : Option ℕ) → IsSomeAnd o (λ f. IsField t f) → IsSome (detail_of t o)
-some-detail t (Some f) made = made.detail
-some-detail t None made = absurd made
+-- an object's map is made unstable first of all
+pub record BeginsMarked (old new : Trail) (m : ℕ) : Type 0 where
+  pub more : List Write
+  pub is : new ≡ more ++ marked old m
 
--- where no field is wide, the live child fits
-pub all-fit : MapsAreKept → LiveIsChild → (v : View) (m : ℕ) (key : Key) (d : Detail) → IsHeap v → IsNarrowTree v.trail → gate_in v.trail m ≡ Some (gate_with (count_of v.trail m) false) → IsNarrow d → fitting_child v.trail m key d ≡ live_child v.trail m key
-all-fit maps law v m key d heap tree gate narrow =
-    let still = maps v.shape v.trail v.trail heap.lawful (goes-still v.shape heap.lawful) in
-    narrow-fits law v.trail m key d tree.tree tree.narrow (λ x k g is lt. some-detail v.trail (field_at v.trail x k) ((still.opened x g is).entries.fields k lt)) gate narrow
+pub append-assoc : (a b : List Write) (c : Trail) → (a ++ b) ++ c ≡ a ++ (b ++ c)
+append-assoc [] b c = refl
+append-assoc (x ∷ xs) b c = ap (λ (t : Trail). x ∷ t) (append-assoc xs b c)
 
--- what the call says
-pub childed : MapsAreKept → LiveIsChild → (v w : View) (m c : ℕ) (key : Key) (d : Detail) → IsHeap v → IsNarrowTree v.trail → gate_in v.trail m ≡ Some (gate_with (count_of v.trail m) false) → IsNarrow d
-    → Adds (Reshapes v.used (OutgrownFor v.trail m key d) (AskGets v.trail m key d v.used.fields)) v.trail w.trail → DetailsAre (AskGets v.trail m key d v.used.fields) v.trail w.trail
-    → w.shape ≡ v.shape → w.used ≡ with_need (child_need (fitting_child v.trail m key d) (count_of v.trail m)) v.used
-    → (fitting_child v.trail m key d ≡ None → c ≡ v.used.maps) → ((x : ℕ) → fitting_child v.trail m key d ≡ Some x → c ≡ x) → live_child w.trail m key ≡ Some c
-    → IsSomeAnd (gate_in w.trail m) (λ g. IsChildFor w.trail m g c key) → EndsWith w.trail c (count_of v.trail m) key (asked_detail v.trail m key d)
-    → IsTree w.trail → IsHeap w → IsChilded v w m (count_of v.trail m) c key d
-childed maps law v w m c key d before tree gate narrow writes details shape used number found live child ends whole heap =
-    let fit : fitting_child v.trail m key d ≡ live_child v.trail m key = all-fit maps law v m key d before tree gate narrow in
-    record {
-      writes = adds-wider (reshapes-dies v.used (OutgrownFor v.trail m key d) NoMap (λ x out. fit-whole v.trail m key d x fit out) (AskGets v.trail m key d v.used.fields)) writes;
-      shape = shape;
-      used = subst (λ (o : Option ℕ). w.used ≡ with_need (child_need o (count_of v.trail m)) v.used) fit used;
-      number = λ none. number (fit ∙ none);
-      found = λ x is. found x (fit ∙ is);
-      live = live;
-      child = child;
-      ends = ends;
-      tree = record {
-        tree = whole;
-        narrow = narrow-by (AskGets v.trail m key d v.used.fields) v.trail w.trail details (λ f e got. ask-narrow v.trail m key d v.used.fields f e tree.narrow narrow got) tree.narrow;
-      };
-      heap = heap;
-    }
+parent-some : (o : Option (Option ℕ)) (c : ℕ) → parent_of o ≡ Some c → o ≡ Some (Some c)
+parent-some (Some p) c is = ap (λ (q : Option ℕ). Some q) is
+parent-some None c is = let n : None ≡ Some c = is in let f : ⊥ = cc in absurd f
 
--- they are writes of the tree
-pub child-grows : (v w : View) (m n c : ℕ) (key : Key) (d : Detail) → IsChilded v w m n c key d → Adds GrowsTree v.trail w.trail
-child-grows v w m n c key d it = adds-wider (reshapes-grow v.used (AskGets v.trail m key d v.used.fields)) it.writes
+-- a child that fits is the live one
+fit-live : (t : Trail) (l : Option ℕ) (x n : ℕ) (d : Detail) → fit_of t l n d ≡ Some x → l ≡ Some x
+fit-live t None x n d is = let e : None ≡ Some x = is in let f : ⊥ = cc in absurd f
+fit-live t (Some c) x n d is = by (joins_in_place (detail_at t c n) (Some d)) is
+  where
+    by : (b : Bool) → cond b (Some c) None ≡ Some x → Some c ≡ Some x
+    by true e = e
+    by false e = let f : ⊥ = cc in absurd f
+
+-- a map that stands under a child isn't private
+pub under-shared : (t : Trail) (c d x : ℕ) (g : GateWord) → IsTree t → (p : ℕ) → parent_in t c ≡ Some (Some p) → ancestor t d x ≡ Some c → gate_in t x ≡ Some g → g.is_private ≡ false
+under-shared t c zero x g tree p up is gate = not-private g.is_private refl
+  where
+    same : x ≡ c
+    same = some-is x c is
+
+    not-private : (b : Bool) → g.is_private ≡ b → g.is_private ≡ false
+    not-private false e = e
+    not-private true e = let none : parent_in t x ≡ Some None = (tree.maps x g gate).alone e in let n : Some (Some p) ≡ Some None = sym up ∙ (ap (parent_in t) (sym same) ∙ none) in let f : ⊥ = cc in absurd f
+under-shared t c (suc d) x g tree p up is gate = not-private g.is_private refl
+  where
+    above-none : (k : ℕ) → parent_in t x ≡ Some None → ancestor t (suc k) x ≡ None
+    above-none zero e = ap parent_of e
+    above-none (suc k) e = ap (above t) (above-none k e)
+
+    not-private : (b : Bool) → g.is_private ≡ b → g.is_private ≡ false
+    not-private false e = e
+    not-private true e = let n : None ≡ Some c = sym (above-none d ((tree.maps x g gate).alone e)) ∙ is in let f : ⊥ = cc in absurd f
 
 slots-by : (l : Option ℕ) (n : ℕ) (s : Shape) → (with_need (child_need l n) s).slots ≡ s.slots
 slots-by (Some c) n s = omega arith
@@ -109,42 +111,33 @@ linked-by linked s t m c key lawful live [] e =
     absurd (not-both (live_child t m key) c none live)
 linked-by linked s t m c key lawful live (l ∷ ls) e = linked s t m l ls lawful e
 
--- a field that is asked to admit a detail marks no map
-raised-marks : (t : Trail) (f m : ℕ) (d : Detail) → Adds (MarksAt m) t (raised t f d)
-raised-marks t f m d = by (detail_in t f)
-  where
-    within : (e : Detail) (b : Bool) → Adds (MarksAt m) t (cond b t (FieldDetail f (joined_detail e d) ∷ t))
-    within e true = adds-none t
-    within e false = adds-one t (FieldDetail f (joined_detail e d)) tt
-
-    by : (was : Option Detail) → Adds (MarksAt m) t (raised_from was t f d)
-    by None = adds-none t
-    by (Some e) = within e (is_detail_within d e)
-
 module _ (maps : MapsAreKept) (details : DetailsRise) (unused : UnusedSaysNothing) (linked : LinkedAreUnstable) (v w : View) (o m n c : ℕ) (p : Prop) (d : Detail) (heap : IsHeap v) (it : IsChilded v w m n c (key_of p) d) (is_open : gate_in v.trail m ≡ Some (gate_with n false)) where
   lawful-then : Lawful v.shape w.trail
   lawful-then = subst (λ (s : Shape). Lawful s w.trail) it.shape it.heap.lawful
 
-  grows : Adds GrowsTree v.trail w.trail
-  grows = child-grows v w m n c (key_of p) d it
+  abbrev Dies : ℕ → Type 0
+  Dies = OutgrownFor v.trail m (key_of p) d
+
+  abbrev Gets : ℕ → Detail → Type 0
+  Gets = AskGets v.trail m (key_of p) d v.used.fields
 
   after : IsLater v.trail w.trail
-  after = later maps details v.shape v.trail w.trail heap.lawful (goes-on-of v.shape grows lawful-then)
+  after = later maps details v.shape v.trail w.trail heap.lawful (goes-on-of v.shape it.writes lawful-then)
 
   pub map-same : map_in w.trail o ≡ map_in v.trail o
-  map-same = same-after (λ (t : Trail). map_in t o) (map-grown o) grows
+  map-same = same-after (λ (t : Trail). map_in t o) (map-grown v.used Dies Gets o) it.writes
 
   pub store-same : store_in w.trail o ≡ store_in v.trail o
-  store-same = same-after (λ (t : Trail). store_in t o) (store-grown o) grows
+  store-same = same-after (λ (t : Trail). store_in t o) (store-grown v.used Dies Gets o) it.writes
 
   slot-same : (s : ℕ) → slot_in w.trail s ≡ slot_in v.trail s
-  slot-same s = same-after (λ (t : Trail). slot_in t s) (slot-grown s) grows
+  slot-same s = same-after (λ (t : Trail). slot_in t s) (slot-grown v.used Dies Gets s) it.writes
 
   pub proto-same : (root_in w.trail o).is_proto ≡ (root_in v.trail o).is_proto
-  proto-same = same-after (λ (t : Trail). (root_in t o).is_proto) (proto-grown o) grows
+  proto-same = same-after (λ (t : Trail). (root_in t o).is_proto) (proto-grown v.used Dies Gets o) it.writes
 
   pub slots-same : w.used.slots ≡ v.used.slots
-  slots-same = ap (λ (s : Shape). s.slots) it.used ∙ slots-by (live_child v.trail m (key_of p)) n v.used
+  slots-same = ap (λ (s : Shape). s.slots) it.used ∙ slots-by (fitting_child v.trail m (key_of p) d) n v.used
 
   pub objects-same : w.used.objects ≡ v.used.objects
   objects-same = ap (λ (s : Shape). s.objects) it.used
@@ -168,29 +161,16 @@ module _ (maps : MapsAreKept) (details : DetailsRise) (unused : UnusedSaysNothin
   pub child-then : gate_in w.trail c ≡ Some (gate_with (n + 1) false)
   child-then = its-child.gate
 
-  -- the last field of a child that was there
-  found-field : (x : ℕ) → live_child v.trail m (key_of p) ≡ Some x → (f : ℕ) × (field_at v.trail x n ≡ Some f)
-  found-field x e =
-      let field = some-and (field_at w.trail c n) (λ f. (owner_in w.trail f ≡ Some c) × (detail_in w.trail f ≡ Some (child_detail v.trail (live_child v.trail m (key_of p)) n d))) it.ends.field in
-      let used : w.used.maps ≡ v.used.maps + 0 = ap (λ (s : Shape). s.maps) it.used ∙ ap (λ (l : Option ℕ). (with_need (child_need l n) v.used).maps) e in
-      let there : c < w.used.maps = open-used unused w it.heap c (gate_with (n + 1) false) child-then in
-      let gate : gate_in v.trail c ≡ Some (gate_with (n + 1) false) =
-      sym (reshapes-gate unused v w (AskGets v.trail m (key_of p) d v.used.fields) it.heap it.writes c (omega (arith, there, used))) ∙ child-then in
-      let entry = after.maps.entry c n (gate_with (n + 1) false) gate (omega arith) in
-      (field.0, subst (λ (y : ℕ). field_at v.trail y n ≡ Some field.0) (it.found x e) (sym entry.field ∙ field.1.0))
-
-  -- whether the child was there or is made, the map is unstable first
-  pub child-begins : (live_child v.trail m (key_of p) ≡ None → Adds (MakesMap v.used (Some m)) (marked v.trail m) w.trail)
-      → ((x f : ℕ) → live_child v.trail m (key_of p) ≡ Some x → field_at v.trail x n ≡ Some f → w ≡ record v { trail = raised v.trail f d }) → Adds (MarksAt m) (marked v.trail m) w.trail
-  child-begins made raised_to = by (live_child v.trail m (key_of p)) refl
+  -- the writes begin with the mark
+  pub child-begins : (fitting_child v.trail m (key_of p) d ≡ None → Adds (Reshapes v.used (OutgrownFor v.trail m (key_of p) d) (AskGets v.trail m (key_of p) d v.used.fields)) (marked v.trail m) w.trail) → BeginsMarked v.trail w.trail m
+  child-begins made = by (fitting_child v.trail m (key_of p) d) refl
     where
-      by : (l : Option ℕ) → live_child v.trail m (key_of p) ≡ l → Adds (MarksAt m) (marked v.trail m) w.trail
-      by None e = adds-wider (makes-at v.used (Some m) m (λ x is. some-is x m (sym is))) (made e)
-      by (Some x) e =
-          let field = found-field x e in
-          let same : w.trail ≡ raised v.trail field.0 d = ap (λ (y : View). y.trail) (raised_to x field.0 e field.1) in
-          subst (λ (t : Trail). Adds (MarksAt m) t w.trail) (sym (marked-already v.trail m (linked-by linked v.shape v.trail m x (key_of p) heap.lawful e (links_in v.trail m) refl)))
-          (subst (λ (t : Trail). Adds (MarksAt m) v.trail t) (sym same) (raised-marks v.trail field.0 m d))
+      by : (l : Option ℕ) → fitting_child v.trail m (key_of p) d ≡ l → BeginsMarked v.trail w.trail m
+      by None e = let adds = made e in record { more = adds.more; is = adds.is }
+      by (Some x) e = record {
+        more = it.writes.more;
+        is = it.writes.is ∙ ap (λ (t : Trail). it.writes.more ++ t) (sym (marked-already v.trail m (linked-by linked v.shape v.trail m x (key_of p) heap.lawful (fit-live v.trail (live_child v.trail m (key_of p)) x (count_of v.trail m) d e) (links_in v.trail m) refl)));
+      }
 
   pub holds-then : HoldsEntries v.trail o m (gate_with n false) → (root_in v.trail o).is_proto ≡ false → HoldsEntries w.trail o m (gate_with n false)
   holds-then holds shared =
@@ -198,13 +178,13 @@ module _ (maps : MapsAreKept) (details : DetailsRise) (unused : UnusedSaysNothin
       let fast : IsFast v.trail o m (gate_with n false) = record { is_open = is_open; holds = holds; private = sym shared } in
       (fits-still v.trail w.trail after o m (gate_with n false) stay fast).holds
 
-  pub grown-then : IsGrownBy w.trail m c n p
-  grown-then =
-      let e = child_detail v.trail (live_child v.trail m (key_of p)) n d in
+  pub grown-then : MayHold (asked_detail v.trail m (key_of p) d).rep p.held → IsGrownBy w.trail m c n p
+  grown-then fits =
+      let e = asked_detail v.trail m (key_of p) d in
       let field = some-and (field_at w.trail c n) (λ f. (owner_in w.trail f ≡ Some c) × (detail_in w.trail f ≡ Some e)) it.ends.field in
       record {
         detail = e;
-        narrow = it.tree.narrow field.0 e field.1.1.1;
+        fits = fits;
         grown = grown-child w.trail m c (gate_with n false) (key_of p) e open-then it.child it.ends;
       }
 
@@ -217,21 +197,21 @@ module _ (maps : MapsAreKept) (details : DetailsRise) (unused : UnusedSaysNothin
       (subst (λ (s : ℕ). s + slots_need n (store_in v.trail o).capacity ≤ w.shape.slots) (sym slots-same)
       (subst (λ (s : Shape). v.used.slots + slots_need n (store_in v.trail o).capacity ≤ s.slots) (sym it.shape) room))
 
-  opens-by : (l : Option ℕ) → live_child v.trail m (key_of p) ≡ l → OpensNoRoot v.trail w.trail
+  opens-by : (l : Option ℕ) → fitting_child v.trail m (key_of p) d ≡ l → OpensNoRoot v.trail w.trail
   opens-by (Some x) e =
       let used : w.used.maps ≡ v.used.maps + 0 = ap (λ (s : Shape). s.maps) it.used ∙ ap (λ (l : Option ℕ). (with_need (child_need l n) v.used).maps) e in
-      reshapes-none unused v w (AskGets v.trail m (key_of p) d v.used.fields) it.heap it.writes (omega (arith, used))
+      reshapes-none unused v w Dies Gets it.heap it.writes (omega (arith, used))
   opens-by None e =
       let used : w.used.maps ≡ v.used.maps + 1 = ap (λ (s : Shape). s.maps) it.used ∙ ap (λ (l : Option ℕ). (with_need (child_need l n) v.used).maps) e in
       let parent : parent_in w.trail v.used.maps ≡ Some (Some m) = subst (λ (x : ℕ). parent_in w.trail x ≡ Some (Some m)) (it.number e) its-child.parent in
-      reshapes-one unused v w (AskGets v.trail m (key_of p) d v.used.fields) it.heap it.writes used (λ g gate shared top. child-no-root w.trail m v.used.maps parent top)
+      reshapes-one unused v w Dies Gets it.heap it.writes used (λ g gate shared top. child-no-root w.trail m v.used.maps parent top)
 
   opens-here : OpensNoRoot v.trail w.trail
-  opens-here = opens-by (live_child v.trail m (key_of p)) refl
+  opens-here = opens-by (fitting_child v.trail m (key_of p) d) refl
 
-  changed-here : Changed v w o
+  changed-here : ChangedBut (OutgrownFor v.trail m (key_of p) d) v w o
   changed-here = record {
-    writes = adds-wider (reshapes-touches v o v.used (AskGets v.trail m (key_of p) d v.used.fields)) it.writes;
+    writes = adds-wider (reshapes-touches v o v.used Dies Gets) it.writes;
     shape = it.shape;
     slots = omega (arith, slots-same);
     tree = it.tree;
@@ -241,14 +221,34 @@ module _ (maps : MapsAreKept) (details : DetailsRise) (unused : UnusedSaysNothin
   owns-here : (s : ℕ) → Owns w.trail o s → s < v.used.slots → Owns v.trail o s
   owns-here s owns lt = subst (λ (x : StoreWord). IsIn x s) store-same owns
 
-  pub used-on : (x : View) → x.used ≡ with_slots (store_in w.trail o) n w.used → x.used ≡ with_growth v.trail o m n (key_of p) v.used
-  used-on x e =
+  pub used-on : (x : View) → d ≡ held_detail v.trail p.held Const → x.used ≡ with_slots (store_in w.trail o) n w.used → x.used ≡ with_growth v.trail o m n p v.used
+  used-on x asked e =
       e
       ∙ ap (λ (c : StoreWord). with_slots c n w.used) store-same
       ∙ ap (with_slots (store_in v.trail o) n) it.used
+      ∙ ap (λ (y : Detail). with_slots (store_in v.trail o) n (with_need (child_need (fitting_child v.trail m (key_of p) y) n) v.used)) asked
 
   -- from the child on the object was moved
-  module _ (x : View) (moved : IsMoved w x o m n p) where
+  module _ (law : LiveIsChild) (tree_v : IsTree v.trail) (x : View) (moved : IsMovedBut NoMap w x o m n p) where
+    whole-later : IsLater v.trail x.trail
+    whole-later = is-later maps details v x o heap (changed-on v w x o changed-here owns-here moved.changed)
+
+    -- written parents stay
+    parents-on : (k : ℕ) (up : Option ℕ) → parent_in v.trail k ≡ Some up → parent_in x.trail k ≡ Some up
+    parents-on k up is = whole-later.maps.written.parent k up is
+
+    above-on : (k a : Option ℕ) (c : ℕ) → above v.trail k ≡ Some c → a ≡ k → above x.trail a ≡ Some c
+    above-on (Some k) a c is same = ap (above x.trail) same ∙ (ap parent_of (parents-on k (Some c) (parent-some (parent_in v.trail k) c is)))
+    above-on None a c is same = let n : None ≡ Some c = is in let f : ⊥ = cc in absurd f
+
+    ancestor-on : (depth y c : ℕ) → ancestor v.trail depth y ≡ Some c → ancestor x.trail depth y ≡ Some c
+    ancestor-on zero y c is = is
+    ancestor-on (suc depth) y c is = by (λ k. ancestor-on depth y k) (ancestor v.trail depth y) refl is
+      where
+        by : ((k : ℕ) → ancestor v.trail depth y ≡ Some k → ancestor x.trail depth y ≡ Some k) → (k : Option ℕ) → ancestor v.trail depth y ≡ k → above v.trail k ≡ Some c → above x.trail (ancestor x.trail depth y) ≡ Some c
+        by before (Some k) e up = above-on (Some k) (ancestor x.trail depth y) c up (before k e)
+        by before None e up = let n : None ≡ Some c = up in let f : ⊥ = cc in absurd f
+
     later-on : IsLater w.trail x.trail
     later-on = is-later maps details w x o it.heap moved.changed
 
@@ -259,13 +259,27 @@ module _ (maps : MapsAreKept) (details : DetailsRise) (unused : UnusedSaysNothin
         let up = some-of (parent_in w.trail k) (later-on.maps.opened k h e).parent in
         opens-here k h none e (ap (λ (y : GateWord). y.is_private) same ∙ shared) (up.1 ∙ sym (later-on.maps.written.parent k up.0 up.1) ∙ parent)
 
-    pub moved-on : Adds (MarksAt m) (marked v.trail m) w.trail → IsMoved v x o m n p
+    -- a map that died stays so
+    dead-on : (y : ℕ) → IsTrue (bits_in w.trail y).deprecated → IsTrue (bits_in x.trail y).deprecated
+    dead-on y dead = live-stays w x.trail o y (λ none. none) moved.changed.writes ∙ dead
+
+    -- and isn't private
+    shared-on : (y : ℕ) → OutgrownFor v.trail m (key_of p) d y → (g : GateWord) → gate_in x.trail y ≡ Some g → g.is_private ≡ false
+    shared-on y out g gate =
+        let child : IsChildFor v.trail m (gate_with n false) out.child (key_of p) = law v.trail m out.child (gate_with n false) (key_of p) tree_v is_open out.is in
+        under-shared x.trail out.child out.under.depth y g moved.changed.tree m
+        (parents-on out.child (Some m) child.parent) (ancestor-on out.under.depth y out.child out.under.leads) gate
+
+    either-on : (y : ℕ) → y ≢ m → (bits_in v.trail y).unstable ≡ false → IsTrue (bits_in x.trail y).unstable → (b : Bool) → (bits_in w.trail y).unstable ≡ b → IsLinkedOrDead v.trail x.trail y
+    either-on y other stable now false e = ⊎_elim (λ links. inl links) (λ died. inr (record { shared = died.shared; dead = died.dead })) (moved.marks y other e now)
+    either-on y other stable now true e = ⊎_elim (λ same. absurd (other same)) (λ out. inr (record { shared = shared-on y out.0; dead = dead-on y out.1 })) (it.marks y stable e)
+
+    pub moved-on : BeginsMarked v.trail w.trail m → IsMovedBut (OutgrownFor v.trail m (key_of p) d) v x o m n p
     moved-on begins = record {
       child = moved.child;
       changed = changed-on v w x o changed-here owns-here moved.changed;
       opens = λ k g none gate shared parent. opens-on k g gate shared parent none (gate_in w.trail k) refl;
       detail = moved.detail;
-      narrow = moved.narrow;
       grown = moved.grown;
       shared = moved.shared;
       moved = moved.moved;
@@ -278,16 +292,19 @@ module _ (maps : MapsAreKept) (details : DetailsRise) (unused : UnusedSaysNothin
       owns = λ s owns lt. let later_lt : s < w.used.slots = omega (arith, lt, slots-same) in owns-here s (moved.owns s owns later_lt) lt;
       objects = moved.objects ∙ objects-same;
       other = moved.other;
-      after = adds-on begins (subst (λ (t : Trail). Adds (MarksAt m) t x.trail) (marked-already w.trail m unstable-then) moved.after);
+      more = moved.more ++ begins.more;
+      after = moved.after ∙ (ap (λ (t : Trail). moved.more ++ t) (marked-already w.trail m unstable-then ∙ begins.is) ∙ sym (append-assoc moved.more begins.more (marked v.trail m)));
+      marks = λ y other stable now. either-on y other stable now (bits_in w.trail y).unstable refl;
+      dead = λ y dies there. dead-on y (it.dead y dies there);
     }
 
     -- the field of the last entry admits what was asked
     pub child-asks-on : map_in x.trail o ≡ Some c → ((f : ℕ) → detail_in x.trail f ≡ detail_in w.trail f) → (k : ℕ) (y : Detail) → map_in x.trail o ≡ Some k → detail_at x.trail k n ≡ Some y → IsTrue (is_detail_within d y)
     child-asks-on comes same k y has admits =
-        let e = child_detail v.trail (live_child v.trail m (key_of p)) n d in
+        let e = asked_detail v.trail m (key_of p) d in
         let field = some-and (field_at w.trail c n) (λ f. (owner_in w.trail f ≡ Some c) × (detail_in w.trail f ≡ Some e)) it.ends.field in
         let to : k ≡ c = some-is k c (sym has ∙ comes) in
         let entry = later-on.maps.entry c n (gate_with (n + 1) false) child-then (omega arith) in
         let there : detail_at x.trail c n ≡ Some e = ap (detail_of x.trail) (entry.field ∙ field.1.0) ∙ (same field.0 ∙ field.1.1.1) in
         let is : e ≡ y = some-is e y (sym there ∙ (ap (λ (z : ℕ). detail_at x.trail z n) (sym to) ∙ admits)) in
-        subst (λ (z : Detail). IsTrue (is_detail_within d z)) is (child-asks v.trail (live_child v.trail m (key_of p)) n d)
+        subst (λ (z : Detail). IsTrue (is_detail_within d z)) is (child-asks v.trail (live_child v.trail m (key_of p)) (count_of v.trail m) d)

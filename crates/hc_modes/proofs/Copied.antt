@@ -1,4 +1,5 @@
 -- A map was made unstable and copied to a private one: what became of an object, and of the trail.
+use Rattle.hc_tree.specs.Details.{NoMap}
 use Rattle.std.proofs.Common.{◌≡◌, ℕ, ◌+◌, ◌<◌, Bool, true, false, cond, ◌∷◌, Option, Some, None, IfSome, refl, sym, ap, ◌∙◌, subst, arith}
 use Rattle.std.specs.Prelude.{IsTrue}
 use Rattle.hc_layout.specs.declared.shape.Region.TheVariants.{Maps}
@@ -14,7 +15,7 @@ use Rattle.hc_heap.specs.Kept.{Adds, DetailsRise, UnusedSaysNothing}
 use Rattle.hc_heap.specs.Frames.{adds-none, adds-one, adds-on, adds-wider, same-after, goes-on-of}
 use Rattle.hc_heap.specs.States.{View, IsHeap}
 use Rattle.hc_descs.specs.Entries.{count_of}
-use Rattle.hc_modes.specs.Narrow.{IsNarrowTree}
+use Rattle.hc_tree.specs.Tree.{IsTree}
 use Rattle.hc_tree.specs.Kept.{MapsAreKept}
 use Rattle.hc_tree.specs.Copying.{IsPrivateCopy, MayBeLast, More, copied_count, copy_need}
 use Rattle.hc_tree.specs.Growth.{MakesMap, marked}
@@ -94,7 +95,7 @@ pub record IsMade (fresh : Bool) (more : More) (proto : Option ℕ) (old new : V
   pub used : new.used ≡ with_need (copy_need fresh more (count_of old.trail m)) old.used
   pub writes : Adds (MakesMap old.used None) old.trail new.trail
   pub shape : new.shape ≡ old.shape
-  pub tree : IsNarrowTree new.trail
+  pub tree : IsTree new.trail
   pub heap : IsHeap new
 
 -- and so it was copied from before the mark on
@@ -163,7 +164,7 @@ module _ (maps : MapsAreKept) (details : DetailsRise) (unused : UnusedSaysNothin
 
   pub copy-changed : (o : ℕ) → Changed v w o
   copy-changed o = record {
-    writes = map-made v o v.used (Some m) v.trail w.trail it.writes;
+    writes = map-made NoMap v o v.used (Some m) v.trail w.trail it.writes;
     shape = it.shape;
     slots = omega (arith, slots-same);
     tree = it.tree;

@@ -1,4 +1,6 @@
 -- A new object comes to the root of its prototype, or of null, which is made where there is none.
+use Rattle.hc_modes.proofs.Sparing.{no-deaths}
+use Rattle.hc_tree.specs.Details.{NoMap}
 use Rattle.std.proofs.Common.{◌≡◌, ◌∷◌, ℕ, ◌<◌, Bool, true, false, cond, eqb, eqb-true, eq-eqb, true≢false, List, Option, Some, None, IfSome, length, set, refl, sym, ap, ◌∙◌, subst, arith}
 use Rattle.std.proofs.lemmas.List.{length-set}
 use Rattle.std.specs.Prelude.{IsSomeAnd, IsTrue}
@@ -17,8 +19,7 @@ use Rattle.hc_heap.specs.Frames.{adds-none, adds-on, goes-on-of}
 use Rattle.hc_heap.specs.States.{View, IsHeap, with_write}
 use Rattle.hc_descs.specs.Entries.{entries_in}
 use Rattle.hc_tree.specs.Growth.{root_of, root_need}
-use Rattle.hc_tree.specs.Kept.{MapsAreKept}
-use Rattle.hc_modes.specs.Narrow.{NarrowTreesStay}
+use Rattle.hc_tree.specs.Kept.{MapsAreKept, TreesStay}
 use Rattle.hc_tree.specs.Needs.{with_need}
 use Rattle.hc_tree.specs.Tree.{gate_with}
 use Rattle.hc_table.specs.World.{Object, new_object, object}
@@ -55,7 +56,7 @@ use Rattle.hc_modes.proofs.Worlds.{length-world, world-set}
 -- What the words say after a root was found or made
 
 rooted-touches : (v : View) (o r : ℕ) (proto null x : Option ℕ) → root_of v.trail proto null ≡ x → Adds (Touches v o) v.trail (rooted x v.trail proto r)
-rooted-touches v o r proto null None is = root-made v o v.trail proto r null is
+rooted-touches v o r proto null None is = root-made NoMap v o v.trail proto r null is
 rooted-touches v o r proto null (Some m) is = adds-none v.trail
 
 rooted-map : (t : Trail) (r q : ℕ) (proto x : Option ℕ) → map_in (rooted x t proto r) q ≡ map_in t q
@@ -91,7 +92,7 @@ rooted-proto t r q proto (Some m) = refl
 rooted-proto t r q (Some p) None = named-proto t p q r (eqb p q) refl
 rooted-proto t r q None None = refl
 
-module _ (maps : MapsAreKept) (details : DetailsRise) (trees : NarrowTreesStay) (unused : UnusedSaysNothing) (v w : View) (kept : List (Option Dictionary)) (null then_null proto : Option ℕ) (o r : ℕ)
+module _ (maps : MapsAreKept) (details : DetailsRise) (trees : TreesStay) (unused : UnusedSaysNothing) (v w : View) (kept : List (Option Dictionary)) (null then_null proto : Option ℕ) (o r : ℕ)
     (h : IsObjects v kept null) (it : IsRooted v w null then_null proto r) (none : map_in v.trail o ≡ None) (shared : (root_in v.trail o).is_proto ≡ false) where
   w-map : map_in w.trail o ≡ None
   w-map = ap (λ (t : Trail). map_in t o) it.trail ∙ rooted-map v.trail r o proto (root_of v.trail proto null) ∙ none
@@ -138,10 +139,10 @@ module _ (maps : MapsAreKept) (details : DetailsRise) (trees : NarrowTreesStay) 
 
     changed : Changed v new o
     changed = record {
-      writes = adds-on (subst (λ (t : Trail). Adds (Touches v o) v.trail t) (sym it.trail) (rooted-touches v o r proto null (root_of v.trail proto null) refl)) (map-moved v o w.trail (Some r));
+      writes = adds-on (subst (λ (t : Trail). Adds (Touches v o) v.trail t) (sym it.trail) (rooted-touches v o r proto null (root_of v.trail proto null) refl)) (map-moved NoMap v o w.trail (Some r));
       shape = it.shape;
       slots = omega (arith, slots-same);
-      tree = trees w.shape w.trail new.trail it.heap.lawful (goes-on-of w.shape (map-moved v o w.trail (Some r)) heap.lawful) (move-tree w.trail o (Some r)) it.tree;
+      tree = trees w.shape w.trail new.trail it.heap.lawful (goes-on-of w.shape (map-moved NoMap v o w.trail (Some r)) heap.lawful) (move-tree w.trail o (Some r)) it.tree;
       heap = heap;
     }
 
@@ -153,6 +154,7 @@ module _ (maps : MapsAreKept) (details : DetailsRise) (trees : NarrowTreesStay) 
       maps = λ q other. cond-other o q (Some r) (map_in w.trail q) (λ e. other (sym e)) ∙ ap (λ (t : Trail). map_in t q) it.trail ∙ rooted-map v.trail r q proto (root_of v.trail proto null);
       own = λ m is has. absurd (true≢false (sym has ∙ enter-proto o ∙ shared));
       cells = cells-kept v new o changed;
+      deaths = no-deaths v new o changed;
     }
 
     after : IsLater v.trail new.trail
@@ -191,7 +193,7 @@ module _ (maps : MapsAreKept) (details : DetailsRise) (trees : NarrowTreesStay) 
     -- roots stay the ones that are named, where one was made at most
     roots : AreRoots new.trail then_null
     roots =
-        let writes = map-moved w o w.trail (Some r) in
+        let writes = map-moved NoMap w o w.trail (Some r) in
         let on : IsLater w.trail new.trail = later maps details w.shape w.trail new.trail it.heap.lawful (goes-on-of w.shape writes heap.lawful) in
         roots-stay w new.trail o then_null on writes (λ m g none is shared parent. not-both (gate_in w.trail m) g none is) (rooted-roots v w null then_null proto r it h.roots)
 

@@ -6,7 +6,7 @@ use Rattle.hc_layout.specs.declared.words.GateWord.{GateWord}
 use Rattle.hc_layout.specs.declared.words.StoreWord.{StoreWord}
 use Rattle.hc_value.specs.Field.{is_detail_within}
 use Rattle.hc_value.specs.Prop.{kind_of}
-use Rattle.hc_value.specs.Word.{untagged_of}
+use Rattle.hc_value.specs.Word.{integer_of, untagged_of, unwide_of}
 use Rattle.hc_value.specs.declared.field.Constness.TheVariants.{Const}
 use Rattle.hc_value.specs.declared.field.Detail.{Detail}
 use Rattle.hc_value.specs.declared.field.Rep.{Rep}
@@ -14,6 +14,7 @@ use Rattle.hc_value.specs.declared.field.Rep.TheVariants.{HeapObject, Smi, Tagge
 use Rattle.hc_value.specs.declared.key.Key.{Key}
 use Rattle.hc_value.specs.declared.prop.Held.{Held}
 use Rattle.hc_value.specs.declared.prop.Held.TheVariants.{Datum, Pair}
+use Rattle.hc_value.specs.declared.prop.Kind.{Kind}
 use Rattle.hc_value.specs.declared.prop.Kind.TheVariants.{AccessorProp, DataProp}
 use Rattle.hc_value.specs.declared.prop.Prop.{Prop}
 use Rattle.hc_value.specs.declared.value.Value.{Value}
@@ -30,20 +31,22 @@ use Rattle.hc_facts.specs.Laws.{HonestAfter, KeptIsCarried, MovedIsCarried, Stor
 use Rattle.hc_tree.specs.Kept.{MapsAreKept}
 use Rattle.hc_tree.specs.Tree.{gate_with}
 use Rattle.hc_slots.specs.Cases.{same-or, some-is, some-of, some-and}
-use Rattle.hc_slots.specs.Meaning.{Dictionary, datum_of, held_in, slot_word}
+use Rattle.hc_slots.specs.Meaning.{Dictionary, datum_of, held_in, prop_in, prop_of, slot_word}
 use Rattle.hc_modes.specs.Admitting.{AsksLast, FactsStay, held_detail}
-use Rattle.hc_modes.specs.Changes.{Changed, IsGrown, WordsStay, key_of}
-use Rattle.hc_modes.specs.Linking.{IsRelinked}
+use Rattle.hc_modes.specs.Changes.{ChangedBut, IsGrown, WordsStay, key_of}
+use Rattle.hc_modes.specs.Resettled.{IsResettled}
 use Rattle.hc_modes.specs.Privates.{IsGrownAlone, IsMovedToCopy}
 use Rattle.hc_slots.specs.Slots.{SlotsStay}
 use Rattle.hc_modes.specs.Filling.{IsMoved}
 use Rattle.hc_modes.specs.State.{IsObjects}
+use Rattle.hc_modes.proofs.Fitting.{value-held}
+use Rattle.hc_modes.proofs.Rising.{held-rises}
 use Rattle.hc_modes.proofs.Sound.{is-later, others-stay}
 use Rattle.hc_modes.proofs.Staying.{IsLater, slot-stays}
 
 -- The objects that don't change
 
-module _ (maps : MapsAreKept) (details : DetailsRise) (forms : FormsAreKept) (old new : View) (kept : List (Option Dictionary)) (null : Option ℕ) (h : IsObjects old kept null) (o : ℕ) (changed : Changed old new o) where
+module _ {Dies : ℕ → Type 0} (maps : MapsAreKept) (details : DetailsRise) (forms : FormsAreKept) (old new : View) (kept : List (Option Dictionary)) (null : Option ℕ) (h : IsObjects old kept null) (o : ℕ) (changed : ChangedBut Dies old new o) where
   lawful-new : Lawful old.shape new.trail
   lawful-new = subst (λ (s : Shape). Lawful s new.trail) changed.shape changed.heap.lawful
 
@@ -131,22 +134,29 @@ module _ (maps : MapsAreKept) (details : DetailsRise) (forms : FormsAreKept) (ol
 
 -- A property that was added
 
-pub value-narrow : (r : Rep) (w : ℕ) → r ≢ Wide → value_in r w ≡ value_or (untagged_of w)
-value-narrow Smi w narrow = refl
-value-narrow Wide w narrow = absurd (narrow refl)
-value-narrow HeapObject w narrow = refl
-value-narrow Tagged w narrow = refl
+held-or : (o : Option Value) → datum_of o ≡ Datum (value_or o)
+held-or (Some v) = refl
+held-or None = refl
 
-pub datum-value : (o : Option Value) (v : Value) → datum_of o ≡ Datum v → value_or o ≡ v
-datum-value (Some a) v e = cc
-datum-value None v e = cc
+datum-is : (a b : Value) → Datum a ≡ Datum b → a ≡ b
+datum-is a b e = cc
+
+pub held-value : (r : Rep) (w : ℕ) → held_in DataProp r w ≡ Datum (value_in r w)
+held-value Smi w = held-or (untagged_of w)
+held-value Wide w = held-or (integer_of (unwide_of w))
+held-value HeapObject w = held-or (untagged_of w)
+held-value Tagged w = held-or (untagged_of w)
+
+-- what two fields' words hold is one value
+value-same : (a b : Rep) (w x : ℕ) → held_in DataProp a w ≡ held_in DataProp b x → value_in a w ≡ value_in b x
+value-same a b w x e = datum-is (value_in a w) (value_in b x) (sym (held-value a w) ∙ e ∙ held-value b x)
 
 pub at-some : (P : Detail → Type 0) (x : Option Detail) (d : Detail) → x ≡ Some d → IsSomeAnd x P → P d
 at-some P (Some y) d is h = let same : y ≡ d = cc in subst P same h
 at-some P None d is h = absurd h
 
-module _ (maps : MapsAreKept) (details : DetailsRise) (carries : MovedIsCarried) (gives : StoredIsGiven) (v x : View) (heap : IsHeap v) (o m n : ℕ) (g : GateWord) (p : Prop) (has : map_in v.trail o ≡ Some m) (is_open : gate_in v.trail m ≡ Some g) (count : g.entries ≡ n)
-    (c : ℕ) (e : Detail) (changed : Changed v x o) (grown : IsGrown x.trail m c n (key_of p) e) (moved : map_in x.trail o ≡ Some c) (words : SlotsStay v.trail x.trail o n) (holds : held_in (kind_of p.held) Tagged (slot_word x.trail o n) ≡ p.held) (asks : AsksLast v.trail x.trail o n p) where
+module _ {Dies : ℕ → Type 0} (maps : MapsAreKept) (details : DetailsRise) (carries : MovedIsCarried) (gives : StoredIsGiven) (v x : View) (heap : IsHeap v) (o m n : ℕ) (g : GateWord) (p : Prop) (has : map_in v.trail o ≡ Some m) (is_open : gate_in v.trail m ≡ Some g) (count : g.entries ≡ n)
+    (c : ℕ) (e : Detail) (changed : ChangedBut Dies v x o) (grown : IsGrown x.trail m c n (key_of p) e) (moved : map_in x.trail o ≡ Some c) (words : SlotsStay v.trail x.trail o n) (holds : held_in (kind_of p.held) e.rep (slot_word x.trail o n) ≡ p.held) (asks : AsksLast v.trail x.trail o n p) where
   add-later : IsLater v.trail x.trail
   add-later = is-later maps details v x o heap changed
 
@@ -171,8 +181,9 @@ module _ (maps : MapsAreKept) (details : DetailsRise) (carries : MovedIsCarried)
         same_key = sym entry.key ∙ sym (grown.entries.keys k before);
         is_field = field;
         admits = was.1;
-        rises = rises;
-      }) (words k before)
+        inside = rises.within;
+        same = value-same d.rep was.0.rep (slot_word x.trail o k) (slot_word v.trail o k) (held-rises DataProp was.0.rep d.rep (slot_word x.trail o k) rises.in_place ∙ ap (held_in DataProp was.0.rep) (words k before));
+      })
 
   -- the new one
   last-given : (f : ℕ) (d : Detail) → HasDatum x.trail o c n f → detail_in x.trail f ≡ Some d → IsGiven v.trail x.trail o n d
@@ -183,8 +194,9 @@ module _ (maps : MapsAreKept) (details : DetailsRise) (carries : MovedIsCarried)
           let w = slot_word x.trail o n in
           let there : detail_at x.trail c n ≡ Some d = ap (detail_of x.trail) datum.field ∙ admits in
           let asked : IsTrue (is_detail_within (detail_for v.trail val Const) d) = subst (λ (y : Held). IsTrue (is_detail_within (held_detail v.trail y Const) d)) is (asks c d moved there) in
-          let there-held : datum_of (untagged_of w) ≡ Datum val = subst (λ (y : Held). held_in (kind_of y) Tagged w ≡ y) is holds in
-          gives v.trail x.trail o n val Const d (value-narrow d.rep w (changed.tree.narrow f d admits) ∙ datum-value (untagged_of w) val there-held) asked
+          let same : d ≡ e = some-is d e (sym there ∙ grown.admits) in
+          let there-held : held_in DataProp d.rep w ≡ Datum val = ap (λ (y : Detail). held_in DataProp y.rep w) same ∙ subst (λ (y : Held). held_in (kind_of y) e.rep w ≡ y) is holds in
+          gives v.trail x.trail o n val Const d (value-held d.rep w val there-held) asked
       by (Pair a b) is =
           let key : datum.key ≡ key_of p = some-is datum.key (key_of p) (sym datum.is_key ∙ grown.last) in
           let kind : DataProp ≡ AccessorProp = sym datum.datum ∙ (ap (λ (k : Key). k.kind) key ∙ ap kind_of is) in
@@ -222,11 +234,16 @@ module _ (maps : MapsAreKept) (details : DetailsRise) (forms : FormsAreKept) (st
 
 -- An object that came to another map with the same keys, where each field admits what the old one did
 
-module _ (maps : MapsAreKept) (details : DetailsRise) (forms : FormsAreKept) (stable : StableIsKept) (honest : HonestAfter) (carried : KeptIsCarried) (carries : MovedIsCarried)
+-- the values of an object's properties are in the fields of another map, each of which admits what the old one did
+pub record IsAdmittedAnew (old new : Trail) (o k : ℕ) (was now : Detail) : Type 0 where
+  pub inside : IsTrue (is_detail_within was now)
+  pub same : held_in DataProp now.rep (slot_word new o k) ≡ held_in DataProp was.rep (slot_word old o k)
+
+module _ {Dies : ℕ → Type 0} (maps : MapsAreKept) (details : DetailsRise) (forms : FormsAreKept) (stable : StableIsKept) (honest : HonestAfter) (carried : KeptIsCarried) (carries : MovedIsCarried)
     (v x : View) (kept : List (Option Dictionary)) (null : Option ℕ) (h : IsObjects v kept null) (o m c n : ℕ) (g y : GateWord) (has : map_in v.trail o ≡ Some m) (is_open : gate_in v.trail m ≡ Some g) (count : g.entries ≡ n)
-    (changed : Changed v x o) (moved : map_in x.trail o ≡ Some c) (own : ConstantsStayFor v.trail x.trail o) (to : gate_in x.trail c ≡ Some y) (as_many : y.entries ≡ n) (words : SlotsStay v.trail x.trail o n)
+    (changed : ChangedBut Dies v x o) (moved : map_in x.trail o ≡ Some c) (own : ConstantsStayFor v.trail x.trail o) (to : gate_in x.trail c ≡ Some y) (as_many : y.entries ≡ n)
     (keys : (k : ℕ) → k < n → key_at x.trail c k ≡ key_at x.trail m k)
-    (rises : (k f : ℕ) (was d : Detail) → k < n → field_at x.trail m k ≡ Some f → detail_in v.trail f ≡ Some was → detail_at x.trail c k ≡ Some d → RisesTo was d) where
+    (anew : (k f : ℕ) (key : Key) (was d : Detail) → k < n → key_at v.trail m k ≡ Some key → key.kind ≡ DataProp → field_at x.trail m k ≡ Some f → detail_in v.trail f ≡ Some was → detail_at x.trail c k ≡ Some d → IsAdmittedAnew v.trail x.trail o k was d) where
   like-later : IsLater v.trail x.trail
   like-later = is-later maps details v x o h.heap changed
 
@@ -241,6 +258,8 @@ module _ (maps : MapsAreKept) (details : DetailsRise) (forms : FormsAreKept) (st
       let entry = like-later.maps.entry m k g is_open lt in
       let made = some-and (field_at v.trail m k) (λ q. IsField v.trail q) ((like-later.maps.opened m g is_open).entries.fields k lt) in
       let was = some-of (detail_in v.trail made.0) made.1.1.detail in
+      let key : key_at v.trail m k ≡ Some here.key = sym entry.key ∙ (sym (keys k within) ∙ here.is_key) in
+      let both = anew k made.0 here.key was.0 d within key here.datum (entry.field ∙ made.1.0) was.1 (ap (detail_of x.trail) here.field ∙ admits) in
       inl (carries v.trail x.trail o c k f d here (record {
         map = m;
         gate = g;
@@ -252,8 +271,9 @@ module _ (maps : MapsAreKept) (details : DetailsRise) (forms : FormsAreKept) (st
         same_key = sym entry.key ∙ sym (keys k within);
         is_field = made.1.0;
         admits = was.1;
-        rises = rises k made.0 was.0 d within (entry.field ∙ made.1.0) was.1 (ap (detail_of x.trail) here.field ∙ admits);
-      }) (words k within))
+        inside = both.inside;
+        same = value-same d.rep was.0.rep (slot_word x.trail o k) (slot_word v.trail o k) both.same;
+      }))
 
   pub like-facts : FactsStay v.shape v.trail x.trail
   like-facts = record {
@@ -262,9 +282,15 @@ module _ (maps : MapsAreKept) (details : DetailsRise) (forms : FormsAreKept) (st
     honest = one-honest maps details forms v x kept null h o changed honest carried like-filled;
   }
 
--- a field of a private copy admits what the map's own does
-pub alike-rises : (old new : Trail) → ((f : ℕ) (d : Detail) → detail_in old f ≡ Some d → IsSomeAnd (detail_in new f) (RisesTo d)) → (c m k f : ℕ) (was d : Detail) → detail_at new c k ≡ detail_at new m k → field_at new m k ≡ Some f → detail_in old f ≡ Some was → detail_at new c k ≡ Some d → RisesTo was d
-alike-rises old new rise c m k f was d alike field admits now = at-some (RisesTo was) (detail_in new f) d (sym (ap (detail_of new) field) ∙ (sym alike ∙ now)) (rise f was admits)
+-- a field of a private copy admits what the map's own does, and the word that stays holds what it held
+pub alike-anew : (old new : Trail) → ((f : ℕ) (d : Detail) → detail_in old f ≡ Some d → IsSomeAnd (detail_in new f) (RisesTo d)) → (o c m k f : ℕ) (was d : Detail) → slot_word new o k ≡ slot_word old o k
+    → detail_at new c k ≡ detail_at new m k → field_at new m k ≡ Some f → detail_in old f ≡ Some was → detail_at new c k ≡ Some d → IsAdmittedAnew old new o k was d
+alike-anew old new rise o c m k f was d word alike field admits now =
+    let rises : RisesTo was d = at-some (RisesTo was) (detail_in new f) d (sym (ap (detail_of new) field) ∙ (sym alike ∙ now)) (rise f was admits) in
+    record {
+      inside = rises.within;
+      same = held-rises DataProp was.rep d.rep (slot_word new o k) rises.in_place ∙ ap (held_in DataProp was.rep) word;
+    }
 
 module _ (maps : MapsAreKept) (details : DetailsRise) (forms : FormsAreKept) (stable : StableIsKept) (honest : HonestAfter) (carried : KeptIsCarried) (carries : MovedIsCarried)
     (v x : View) (kept : List (Option Dictionary)) (null : Option ℕ) (h : IsObjects v kept null) (o m n : ℕ) (g : GateWord) (has : map_in v.trail o ≡ Some m) (is_open : gate_in v.trail m ≡ Some g) (count : g.entries ≡ n) where
@@ -272,8 +298,8 @@ module _ (maps : MapsAreKept) (details : DetailsRise) (forms : FormsAreKept) (st
   copied-facts fresh proto it =
       let after : IsLater v.trail x.trail = is-later maps details v x o h.heap it.changed in
       like-facts maps details forms stable honest carried carries v x kept null h o m v.used.maps n g (gate_with n true) has is_open count it.changed it.moved
-      (gone-constants maps details forms v x kept null h o it.changed stable m v.used.maps has it.moved (λ is. let lt = it.younger in omega (arith, is, lt))) it.alike.gate refl it.words it.alike.keys
-      (λ k f was d lt field admits now. alike-rises v.trail x.trail after.details v.used.maps m k f was d (it.alike.details k lt) field admits now)
+      (gone-constants maps details forms v x kept null h o it.changed stable m v.used.maps has it.moved (λ is. let lt = it.younger in omega (arith, is, lt))) it.alike.gate refl it.alike.keys
+      (λ k f key was d lt is_key datum field admits now. alike-anew v.trail x.trail after.details o v.used.maps m k f was d (it.words k lt) (it.alike.details k lt) field admits now)
 
 -- an object whose map became unstable has no constant to show
 marked-constants : (old new : Trail) (o m : ℕ) → map_in old o ≡ Some m → IsTrue (bits_in new m).unstable → ConstantsStayFor old new o
@@ -289,15 +315,30 @@ word-same old new None k same = refl
 pub words-same : (old new : Trail) (o k : ℕ) → store_in new o ≡ store_in old o → ((s : ℕ) → slot_in new s ≡ slot_in old s) → slot_word new o k ≡ slot_word old o k
 words-same old new o k store slots = ap (λ (w : StoreWord). word_from new w.first k) store ∙ word-same old new (store_in old o).first k slots
 
-module _ (maps : MapsAreKept) (details : DetailsRise) (forms : FormsAreKept) (stable : StableIsKept) (honest : HonestAfter) (carried : KeptIsCarried) (carries : MovedIsCarried)
-    (v x : View) (kept : List (Option Dictionary)) (null then_null : Option ℕ) (h : IsObjects v kept null) (o m n : ℕ) (g : GateWord) (has : map_in v.trail o ≡ Some m) (is_open : gate_in v.trail m ≡ Some g) (count : g.entries ≡ n) where
-  -- an object with a shared map that got another prototype
-  pub relinked-facts : (proto : Option ℕ) → IsRelinked v x null then_null o m n proto → FactsStay v.shape v.trail x.trail
-  relinked-facts proto it =
-      let after : IsLater v.trail x.trail = is-later maps details v x o h.heap it.changed in
-      like-facts maps details forms stable honest carried carries v x kept null h o m it.map n g (gate_with n false) has is_open count it.changed it.moved (marked-constants v.trail x.trail o m has it.unstable) it.like.gate refl
-      (λ k lt. words-same v.trail x.trail o k it.store it.words) it.like.keys
-      (λ k f was d lt field admits now.
+-- what the word of a data property holds
+prop-held : (old new : Trail) (o m c k : ℕ) (key : Key) (was now : Detail) → key_at old m k ≡ Some key → key.kind ≡ DataProp → key_at new c k ≡ Some key → detail_at old m k ≡ Some was → detail_at new c k ≡ Some now
+    → prop_in new o c k ≡ prop_in old o m k → held_in DataProp now.rep (slot_word new o k) ≡ held_in DataProp was.rep (slot_word old o k)
+prop-held old new o m c k key was now is datum then admits admits_now same =
+    let before : (prop_in old o m k).held ≡ held_in key.kind was.rep (slot_word old o k) =
+    ap (λ (x : Option Key). (prop_of x (detail_at old m k) (slot_word old o k)).held) is ∙ ap (λ (x : Option Detail). (prop_of (Some key) x (slot_word old o k)).held) admits in
+    let after : (prop_in new o c k).held ≡ held_in key.kind now.rep (slot_word new o k) =
+    ap (λ (x : Option Key). (prop_of x (detail_at new c k) (slot_word new o k)).held) then ∙ ap (λ (x : Option Detail). (prop_of (Some key) x (slot_word new o k)).held) admits_now in
+    subst (λ (kind : Kind). held_in kind now.rep (slot_word new o k) ≡ held_in kind was.rep (slot_word old o k)) datum
+    (sym after ∙ (ap (λ (p : Prop). p.held) same ∙ before))
+
+-- An object that came to another map, where its properties are what they were
+module _ {Dies : ℕ → Type 0} (maps : MapsAreKept) (details : DetailsRise) (forms : FormsAreKept) (stable : StableIsKept) (honest : HonestAfter) (carried : KeptIsCarried) (carries : MovedIsCarried)
+    (v x : View) (kept : List (Option Dictionary)) (null : Option ℕ) (h : IsObjects v kept null) (o m n : ℕ) (g : GateWord) (has : map_in v.trail o ≡ Some m) (is_open : gate_in v.trail m ≡ Some g) (count : g.entries ≡ n) where
+  pub resettled-facts : (c : ℕ) (own : Bool) (proto : Option ℕ) → ChangedBut Dies v x o → IsTrue (bits_in x.trail m).unstable → IsResettled v.trail x.trail o m c n own proto → FactsStay v.shape v.trail x.trail
+  resettled-facts c own proto changed unstable it =
+      let after : IsLater v.trail x.trail = is-later maps details v x o h.heap changed in
+      like-facts maps details forms stable honest carried carries v x kept null h o m c n g (gate_with n own) has is_open count changed it.moved (marked-constants v.trail x.trail o m has unstable) it.gate refl it.keys
+      (λ k f key was d lt is_key datum field admits now.
       let within : k < g.entries = omega (arith, lt, count) in
-      let before : field_at v.trail m k ≡ Some f = sym (after.maps.entry m k g is_open within).field ∙ field in
-      it.rises k was d lt (ap (detail_of v.trail) before ∙ admits) now)
+      let entry = after.maps.entry m k g is_open within in
+      let before : field_at v.trail m k ≡ Some f = sym entry.field ∙ field in
+      let was_there : detail_at v.trail m k ≡ Some was = ap (detail_of v.trail) before ∙ admits in
+      record {
+        inside = it.admits k was d lt was_there now;
+        same = prop-held v.trail x.trail o m c k key was d is_key datum (it.keys k lt ∙ (entry.key ∙ is_key)) was_there now (it.props k lt);
+      })

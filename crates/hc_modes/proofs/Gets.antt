@@ -9,9 +9,13 @@ use Rattle.hc_heap.specs.Writes.{Slot, Store, Trail, Write}
 use Rattle.hc_descs.specs.Entries.{count_of, detail_at}
 use Rattle.hc_tree.specs.Copying.{CopyGets, More}
 use Rattle.hc_tree.specs.Details.{DetailsAre, NoMap}
-use Rattle.hc_tree.specs.Frames.{details-by}
-use Rattle.hc_tree.specs.Growth.{marked, root_of}
-use Rattle.hc_tree.specs.Walking.{HasMapFor, IsLiveEnd, WalkGets, with_root_for}
+use Rattle.hc_update.specs.Renewing.{IsDoomed}
+use Rattle.hc_modes.specs.Rest.{DeathsAre}
+use Rattle.hc_tree.specs.Growth.{marked}
+use Rattle.hc_tree.specs.Walking.{IsLiveEnd}
+use Rattle.hc_update.specs.Retargeting.{HasMapFor, rooted}
+use Rattle.hc_update.specs.Updating.{UpdateGets}
+use Rattle.hc_modes.specs.Resettled.{marked_view}
 use Rattle.hc_slots.specs.Cases.{some-is}
 use Rattle.hc_slots.specs.Slots.{FillsStore, IsFitted}
 use Rattle.hc_modes.specs.Details.{IfFast, AddedGets, BecameGets, GetsNothing, GrownGets, HasRewalked, IsRewalked, LinkedDetails}
@@ -88,25 +92,34 @@ became-gets v w p m has shared it = details-as (CopyGets true None v.trail m (co
     (λ f d got. record { map = m; has = has; shared = shared; gets = got }) it
 
 -- an object gets another prototype
-pub rewalked : (v w x : View) (null then : Option ℕ) (m c n : ℕ) (proto : Option ℕ) → count_of v.trail m ≡ n → HasMapFor (record v { trail = marked v.trail m }) w null then m c n proto
-    → ((f : ℕ) → detail_in x.trail f ≡ detail_in w.trail f) → IsRewalked v null m proto x.trail
-rewalked v w x null then m c n proto count it same =
+pub rewalked : (v w x : View) (null then : Option ℕ) (m c n : ℕ) (proto : Option ℕ) → count_of v.trail m ≡ n → (it : HasMapFor (marked_view v m) w null then m c n proto)
+    → ((f : ℕ) → detail_in x.trail f ≡ detail_in w.trail f)
+    → DeathsAre (IsDoomed (rooted (marked_view v m) null proto it.root) it.found.end it.found.count it.found.stop) v.trail x.trail → IsRewalked v null m proto x.trail
+rewalked v w x null then m c n proto count it same deaths =
+    let t = rooted (marked_view v m) null proto it.root in
     record {
       root = it.root;
-      end = it.end;
-      count = it.count;
-      ended = subst (λ (k : ℕ). IsLiveEnd (with_root_for (root_of (marked v.trail m) proto null) (marked v.trail m) proto it.root) it.root m k it.end it.count) (sym count) it.ended;
-      details = subst (λ (k : ℕ). DetailsAre (WalkGets (marked v.trail m) it.end m it.count k v.used.fields) v.trail x.trail) (sym count)
-          (details-on (details-from (marked-detail v.trail m) (details-by v.used NoMap (WalkGets (marked v.trail m) it.end m it.count n v.used.fields) it.writes it.gets)) same);
+      end = it.found.end;
+      count = it.found.count;
+      stop = it.found.stop;
+      ended = subst (λ (k : ℕ). IsLiveEnd t it.root m k it.found.end it.found.count) (sym count) it.found.ended;
+      stopped = it.found.stopped;
+      details = subst (λ (k : ℕ). DetailsAre (UpdateGets t it.found.end m it.found.count it.found.stop k v.used.fields) v.trail x.trail) (sym count)
+          (details-on (details-from (marked-detail v.trail m) it.found.details) same);
+      deaths = deaths;
     }
 
 -- one that is or was a prototype gets another, and one that isn't
-pub private-details : (v : View) (kept : List (Option Dictionary)) (null : Option ℕ) (o : ℕ) (proto : Option ℕ) (new : Trail) → (root_in v.trail o).is_proto ≡ true → DetailsAre GetsNothing v.trail new → LinkedDetails v kept null o proto new
-private-details v kept null o proto new is it = record { walked = λ may. absurd (true≢false (sym is ∙ may.shared)); nothing = λ no. it }
+pub private-details : (v : View) (kept : List (Option Dictionary)) (null : Option ℕ) (o : ℕ) (proto : Option ℕ) (new : Trail) → (root_in v.trail o).is_proto ≡ true → DetailsAre GetsNothing v.trail new → DeathsAre NoMap v.trail new → LinkedDetails v kept null o proto new
+private-details v kept null o proto new is it deaths = record { walked = λ may. absurd (true≢false (sym is ∙ may.shared)); nothing = λ no. it; spares = λ no. deaths }
 
 pub shared-details : (v : View) (kept : List (Option Dictionary)) (null : Option ℕ) (o : ℕ) (proto : Option ℕ) (new : Trail) → kept_of kept o ≡ None → HasSpace v (link_need v.trail o proto null) → (root_in v.trail o).is_proto ≡ false
     → HasRewalked v null o proto new → LinkedDetails v kept null o proto new
-shared-details v kept null o proto new fast room shared it = record { walked = λ may. it; nothing = λ no. absurd (no (record { fast = fast; room = room; shared = shared })) }
+shared-details v kept null o proto new fast room shared it = record {
+  walked = λ may. it;
+  nothing = λ no. absurd (no (record { fast = fast; room = room; shared = shared }));
+  spares = λ no. absurd (no (record { fast = fast; room = room; shared = shared }));
+}
 
 -- of an object that is fast then, or isn't
 pub fast-now : {a b : Trail} (x : Option Cause) (G : ℕ → Detail → Type 0) → x ≡ None → DetailsAre G a b → DetailsAre (IfFast x G) a b

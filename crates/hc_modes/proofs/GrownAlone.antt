@@ -1,4 +1,5 @@
 -- An object with a private map gets one property more: it comes to a copy of the map that has one entry more.
+use Rattle.hc_tree.specs.Details.{NoMap}
 use Rattle.std.proofs.Common.{◌≡◌, ℕ, ◌+◌, ◌<◌, ◌≤◌, Bool, true, false, cond, Option, Some, None, IfSome, refl, sym, ap, ◌∙◌, subst, arith, eq-eqb, true≢false}
 use Rattle.std.specs.Prelude.{IsSomeAnd, IsTrue}
 use Rattle.hc_layout.specs.declared.shape.Region.TheVariants.{Slots}
@@ -7,7 +8,6 @@ use Rattle.hc_layout.specs.declared.words.GateWord.{GateWord}
 use Rattle.hc_layout.specs.declared.words.MapBits.{MapBits}
 use Rattle.hc_layout.specs.declared.words.StoreWord.{StoreWord}
 use Rattle.hc_value.specs.Prop.{kind_of}
-use Rattle.hc_value.specs.declared.field.Rep.TheVariants.{Tagged}
 use Rattle.hc_value.specs.declared.prop.Prop.{Prop}
 use Rattle.hc_heap.specs.Writes.{Write, Trail, ObjectMap}
 use Rattle.hc_heap.specs.Readings.{bits_in, detail_in, gate_in, map_in, parent_in, prototype_in, root_in, store_in}
@@ -22,10 +22,9 @@ use Rattle.hc_modes.specs.Admitting.{held_detail}
 use Rattle.hc_modes.proofs.Asked.{detail-same}
 use Rattle.hc_tree.specs.Copying.{IsPrivateCopy, copy_need}
 use Rattle.hc_tree.specs.Growth.{MayBePrototype}
-use Rattle.hc_tree.specs.Kept.{MapsAreKept, TreeIsSame}
-use Rattle.hc_modes.specs.Narrow.{NarrowTreesStay}
+use Rattle.hc_tree.specs.Kept.{MapsAreKept, TreeIsSame, TreesStay}
 use Rattle.hc_tree.specs.Needs.{HasSpace, with_need}
-use Rattle.hc_tree.specs.Tree.{gate_with, IsNarrow}
+use Rattle.hc_tree.specs.Tree.{gate_with}
 use Rattle.hc_modes.specs.Changes.{Changed, IsGrown, OpensNoRoot, Touches, key_of}
 use Rattle.hc_slots.specs.Slots.{SlotsStay, FillsStore, IsFitted, slots_need, AreHandedOut}
 use Rattle.hc_slots.specs.Meaning.{held_in, slot_word}
@@ -37,7 +36,6 @@ use Rattle.hc_modes.proofs.Creating.{proto-none}
 use Rattle.hc_modes.proofs.Holding.{holds-grown}
 use Rattle.hc_modes.proofs.Marking.{fills-at}
 use Rattle.hc_modes.proofs.Owning.{open-used}
-use Rattle.hc_modes.proofs.Rising.{form-between, not-wide}
 use Rattle.hc_value.specs.declared.field.Detail.{Detail}
 use Rattle.hc_modes.proofs.Joining.{bits-by, detail-by, grown-later, map-by, root-by, touches-by, tree-by}
 use Rattle.hc_slots.specs.Cases.{some-of, some-is}
@@ -62,8 +60,8 @@ opens-before v w x opens after same m g none gate shared parent =
     opens m g none before shared (up.1 ∙ sym (after.maps.written.parent m up.0 up.1) ∙ parent)
 
 -- a copy with one entry more was made
-module _ (maps : MapsAreKept) (details : DetailsRise) (trees : NarrowTreesStay) (unused : UnusedSaysNothing) (proto : Option ℕ) (v w : View) (o m n : ℕ) (p : Prop) (d : Detail)
-    (heap : IsHeap v) (it : IsCopied false (Some (key_of p, d)) proto v w m) (has : map_in v.trail o ≡ Some m) (fast : IsFast v.trail o m (gate_with n true)) (is_proto : prototype_in v.trail m ≡ Some proto) (narrow : IsNarrow d) (asked : d ≡ held_detail v.trail p.held Const) where
+module _ (maps : MapsAreKept) (details : DetailsRise) (trees : TreesStay) (unused : UnusedSaysNothing) (proto : Option ℕ) (v w : View) (o m n : ℕ) (p : Prop) (d : Detail)
+    (heap : IsHeap v) (it : IsCopied false (Some (key_of p, d)) proto v w m) (has : map_in v.trail o ≡ Some m) (fast : IsFast v.trail o m (gate_with n true)) (is_proto : prototype_in v.trail m ≡ Some proto) (asked : d ≡ held_detail v.trail p.held Const) where
   after : IsLater v.trail w.trail
   after = copy-later maps details unused false (Some (key_of p, d)) proto v w m heap it
 
@@ -109,7 +107,7 @@ module _ (maps : MapsAreKept) (details : DetailsRise) (trees : NarrowTreesStay) 
 
   -- the slot of the property was filled
   module _ (x : View) (word : ℕ) (filled : IsHeap x) (fitted : IsFitted w x o n) (most : x.used.slots ≤ w.used.slots + slots_need n (store_in w.trail o).capacity)
-      (last : slot_word x.trail o n ≡ word) (form : IsFormOf (kind_of p.held) Tagged word) (is : held_in (kind_of p.held) Tagged word ≡ p.held) where
+      (last : slot_word x.trail o n ≡ word) (form : IsFormOf (kind_of p.held) d.rep word) (is : held_in (kind_of p.held) d.rep word ≡ p.held) where
     fill-later : IsLater w.trail x.trail
     fill-later = later maps details w.shape w.trail x.trail it.heap.lawful (goes-on-of w.shape fitted.writes (subst (λ (s : Shape). Lawful s x.trail) fitted.shape filled.lawful))
 
@@ -130,8 +128,8 @@ module _ (maps : MapsAreKept) (details : DetailsRise) (trees : NarrowTreesStay) 
     words-then : SlotsStay v.trail x.trail o n
     words-then k lt = fitted.words k lt ∙ word-same maps details unused false (Some (key_of p, d)) proto v w m heap it o k
 
-    form-then : IsFormOf (kind_of p.held) Tagged (slot_word x.trail o n)
-    form-then = subst (λ (y : ℕ). IsFormOf (kind_of p.held) Tagged y) (sym last) form
+    form-then : IsFormOf (kind_of p.held) d.rep (slot_word x.trail o n)
+    form-then = subst (λ (y : ℕ). IsFormOf (kind_of p.held) d.rep y) (sym last) form
 
     filled-details : (f : ℕ) → detail_in x.trail f ≡ detail_in w.trail f
     filled-details f = same-after (λ (t : Trail). detail_in t f) (detail-by w o f) fitted.writes
@@ -149,7 +147,7 @@ module _ (maps : MapsAreKept) (details : DetailsRise) (trees : NarrowTreesStay) 
           gets = record {
             there = subst (λ (s : Shape). v.used.maps < s.maps) (sym fitted.shape) there;
             filled = subst (λ (y : Option GateWord). IsSomeAnd y (λ z. HoldsEntries x.trail o v.used.maps z)) (sym filled-grown.is_open)
-                (holds-grown v.trail x.trail whole-later o m (gate_with n true) fast v.used.maps (key_of p) d filled-grown fitted.room words-then (form-between (kind_of p.held) Tagged d.rep (slot_word x.trail o n) not-wide narrow form-then));
+                (holds-grown v.trail x.trail whole-later o m (gate_with n true) fast v.used.maps (key_of p) d filled-grown fitted.room words-then form-then);
             own = λ yes. record {
               private = subst (λ (y : Option GateWord). IsSomeAnd y (λ z. IsTrue z.is_private)) (sym (fill-later.maps.written.gate v.used.maps (gate_with (n + 1) true) copy.gate)) refl;
               stable = ap (λ (b : MapBits). b.unstable) (same-after (λ (t : Trail). bits_in t v.used.maps) (bits-by w o v.used.maps) fitted.writes) ∙ it.own.stable;
@@ -168,7 +166,7 @@ module _ (maps : MapsAreKept) (details : DetailsRise) (trees : NarrowTreesStay) 
           record { links = same.links; gates = same.gates; lives = same.lives; roots = same.roots; details = same.details; arrays = same.arrays; bases = same.bases; keys = same.keys; references = same.references }
 
       moved-writes : Adds (Touches w o) w.trail new.trail
-      moved-writes = adds-on fill-changes (map-moved w o x.trail (Some v.used.maps))
+      moved-writes = adds-on fill-changes (map-moved NoMap w o x.trail (Some v.used.maps))
 
       moved-on : GoesOn w.shape w.trail new.trail
       moved-on = goes-on-of w.shape moved-writes (subst (λ (s : Shape). Lawful s new.trail) fitted.shape moved_heap.lawful)
@@ -224,7 +222,6 @@ module _ (maps : MapsAreKept) (details : DetailsRise) (trees : NarrowTreesStay) 
             changed = changed-on v w new o changed owns moved-changed;
             opens = opens-before v w new opens moved-later tree-same.gates;
             detail = d;
-            narrow = narrow;
             asks = λ k y to admits.
                 let came : map_in new.trail o ≡ Some v.used.maps = ap (λ (b : Bool). cond b (Some v.used.maps) (map_in x.trail o)) (eq-eqb o o refl) in
                 let is : k ≡ v.used.maps = some-is k v.used.maps (sym to ∙ came) in
@@ -237,7 +234,7 @@ module _ (maps : MapsAreKept) (details : DetailsRise) (trees : NarrowTreesStay) 
             room = fitted.room;
             words = words-then;
             form = form-then;
-            holds = ap (held_in (kind_of p.held) Tagged) last ∙ is;
+            holds = ap (held_in (kind_of p.held) d.rep) last ∙ is;
             store = fitted.store;
             owns = λ s mine lt. let later_lt : s < w.used.slots = omega (arith, lt, slots-then) in owns s (fitted.owns s mine later_lt) lt;
             needs = needs-then;

@@ -1,4 +1,7 @@
 -- An object that gets another prototype, after that became one: modes, needs and prototypes.
+use Rattle.hc_tree.specs.Details.{NoMap}
+use Rattle.hc_modes.specs.Rest.{DeathsAre}
+use Rattle.hc_modes.proofs.Sparing.{same-deaths}
 use Rattle.std.proofs.Common.{◌≡◌, ◌≢◌, ℕ, zero, suc, ◌<◌, Bool, true, false, cond, eq-eqb, true≢false, List, [], ◌∷◌, Option, Some, None, length, refl, sym, ap, ◌∙◌, subst, arith, IfSome}
 use Rattle.std.specs.Prelude.{option_map, if◌then◌else◌}
 use Rattle.hc_board.specs.Trail.{Access}
@@ -8,7 +11,7 @@ use Rattle.hc_value.specs.declared.reply.Cause.{Cause}
 use Rattle.hc_value.specs.declared.reply.Cause.TheVariants.{Space}
 use Rattle.hc_heap.specs.Writes.{Trail}
 use Rattle.hc_heap.specs.Lawful.{Lawful}
-use Rattle.hc_heap.specs.Readings.{detail_in, map_in, root_in}
+use Rattle.hc_heap.specs.Readings.{bits_in, detail_in, map_in, root_in}
 use Rattle.hc_heap.specs.States.{View, HeapState}
 use Rattle.hc_descs.specs.Entries.{count_of}
 use Rattle.hc_tree.specs.declared.need.Need.{Need}
@@ -292,6 +295,7 @@ module _ {P : Type 0} where
           details = record {
             walked = λ may. let f : None ≡ Some d = sym may.fast ∙ slow in let g : ⊥ = cc in absurd g;
             nothing = λ no. details-none (λ f. ap (λ (h : HeapState P). detail_in h.view.trail f) heap);
+            spares = λ no. same-deaths b.heap.view.trail c.heap.view.trail (λ m. ap (λ (h : HeapState P). (bits_in h.view.trail m).deprecated) heap);
           };
         }
 
@@ -313,5 +317,6 @@ module _ {P : Type 0} where
           details = record {
             walked = λ may. absurd (full may.room);
             nothing = λ no. subst (λ (h : HeapState P). DetailsAre GetsNothing a.heap.view.trail h.view.trail) (sym heap) details;
+            spares = λ no. subst (λ (h : HeapState P). DeathsAre NoMap a.heap.view.trail h.view.trail) (sym heap) marks.deaths;
           };
         }

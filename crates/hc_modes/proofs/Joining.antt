@@ -1,5 +1,5 @@
 -- An object comes to the child of its map.
-use Rattle.std.proofs.Common.{◌≡◌, ℕ, ◌+◌, ◌<◌, Bool, false, cond, ◌∷◌, Option, Some, None, IfSome, refl, sym, ap, ◌∙◌, subst, arith, eq-eqb, true≢false}
+use Rattle.std.proofs.Common.{◌≡◌, ℕ, ◌+◌, ◌<◌, Bool, false, cond, ◌∷◌, ◌++◌, Option, Some, None, IfSome, refl, sym, ap, ◌∙◌, subst, arith, eq-eqb, true≢false}
 use Rattle.std.specs.Prelude.{IsSomeAnd, IsTrue}
 use Rattle.hc_layout.specs.declared.shape.Shape.{Shape}
 use Rattle.hc_layout.specs.declared.shape.Region.TheVariants.{Maps}
@@ -7,31 +7,27 @@ use Rattle.hc_layout.specs.declared.words.GateWord.{GateWord}
 use Rattle.hc_layout.specs.declared.words.MapBits.{MapBits}
 use Rattle.hc_layout.specs.declared.words.RootWord.{RootWord}
 use Rattle.hc_value.specs.Prop.{kind_of}
-use Rattle.hc_value.specs.declared.field.Rep.TheVariants.{Tagged}
 use Rattle.hc_value.specs.declared.key.Key.{Key}
 use Rattle.hc_value.specs.declared.prop.Prop.{Prop}
 use Rattle.hc_heap.specs.Writes.{Write, Trail, ObjectMap, Store, Slot}
 use Rattle.hc_heap.specs.Readings.{gate_in, bits_in, detail_in, map_in, root_in}
 use Rattle.hc_heap.specs.Lawful.{Lawful, LawfulObjectMap, HoldsEntries, IsFormOf}
 use Rattle.hc_heap.specs.Kept.{Adds, DetailsRise, UnusedSaysNothing, GoesOn}
-use Rattle.hc_heap.specs.Frames.{same-after, adds-on, adds-one, adds-wider, goes-on-of}
+use Rattle.hc_heap.specs.Frames.{same-after, adds-on, adds-wider, goes-on-of}
 use Rattle.hc_heap.specs.States.{View, IsHeap, with_write}
 use Rattle.hc_descs.specs.Entries.{field_at, detail_of}
-use Rattle.hc_tree.specs.Tree.{gate_with}
-use Rattle.hc_modes.specs.Narrow.{IsNarrowTree}
-use Rattle.hc_tree.specs.Kept.{MapsAreKept, TreeIsSame}
-use Rattle.hc_modes.specs.Narrow.{NarrowTreesStay}
+use Rattle.hc_tree.specs.Tree.{IsTree, gate_with}
+use Rattle.hc_tree.specs.Kept.{MapsAreKept, TreesStay, TreeIsSame}
 use Rattle.hc_slots.specs.Meaning.{held_in, slot_word}
 use Rattle.hc_slots.specs.Fast.{IsFast}
 use Rattle.hc_modes.specs.Admitting.{IsGrownBy}
 use Rattle.hc_modes.specs.Changes.{Touches, IsGrown, key_of}
 use Rattle.hc_value.specs.declared.field.Detail.{Detail}
-use Rattle.hc_modes.proofs.Rising.{form-between, not-wide}
 use Rattle.hc_slots.specs.Slots.{FillsStore, IsFitted}
-use Rattle.hc_modes.specs.Filling.{IsMoved}
-use Rattle.hc_modes.specs.Rest.{MarksAt}
+use Rattle.hc_tree.specs.Details.{NoMap}
+use Rattle.hc_modes.specs.Filling.{IsMovedBut}
 use Rattle.hc_modes.proofs.Holding.{holds-grown}
-use Rattle.hc_modes.proofs.Marking.{fills-at, marked-already, other-gate}
+use Rattle.hc_modes.proofs.Marking.{marked-already, other-gate}
 use Rattle.hc_modes.proofs.Owning.{open-used}
 use Rattle.hc_slots.specs.Cases.{not-both, some-is}
 use Rattle.hc_modes.proofs.Sparing.{kept-after}
@@ -106,10 +102,10 @@ module _ (old : View) (o : ℕ) where
   touches-by t _ e = absurd e
 
 -- an object's slot is filled, and it comes to a map with one entry more
-module _ (maps : MapsAreKept) (details : DetailsRise) (trees : NarrowTreesStay) (unused : UnusedSaysNothing) (v w : View) (o m c n x : ℕ) (p : Prop) (heap : IsHeap v) (filled : IsHeap w) (fitted : IsFitted v w o n)
+module _ (maps : MapsAreKept) (details : DetailsRise) (trees : TreesStay) (unused : UnusedSaysNothing) (v w : View) (o m c n x : ℕ) (p : Prop) (heap : IsHeap v) (filled : IsHeap w) (fitted : IsFitted v w o n)
     (has : map_in v.trail o ≡ Some m) (unstable : IsTrue (bits_in v.trail m).unstable) (is_open : gate_in v.trail m ≡ Some (gate_with n false)) (holds : HoldsEntries v.trail o m (gate_with n false))
     (shared : (root_in v.trail o).is_proto ≡ false) (child : gate_in v.trail c ≡ Some (gate_with (n + 1) false)) (by : IsGrownBy v.trail m c n p)
-    (last : slot_word w.trail o n ≡ x) (form : IsFormOf (kind_of p.held) Tagged x) (is : held_in (kind_of p.held) Tagged x ≡ p.held) where
+    (last : slot_word w.trail o n ≡ x) (form : IsFormOf (kind_of p.held) by.detail.rep x) (is : held_in (kind_of p.held) by.detail.rep x ≡ p.held) where
   lawful-later : Lawful v.shape w.trail
   lawful-later = subst (λ (s : Shape). Lawful s w.trail) fitted.shape filled.lawful
 
@@ -125,8 +121,8 @@ module _ (maps : MapsAreKept) (details : DetailsRise) (trees : NarrowTreesStay) 
   grown-there : IsGrown w.trail m c n (key_of p) by.detail
   grown-there = grown-later v.trail w.trail is-after details-same m c n (gate_with n false) (key_of p) by.detail is_open refl by.grown
 
-  form-there : IsFormOf (kind_of p.held) Tagged (slot_word w.trail o n)
-  form-there = subst (λ (y : ℕ). IsFormOf (kind_of p.held) Tagged y) (sym last) form
+  form-there : IsFormOf (kind_of p.held) by.detail.rep (slot_word w.trail o n)
+  form-there = subst (λ (y : ℕ). IsFormOf (kind_of p.held) by.detail.rep y) (sym last) form
 
   map-same : map_in w.trail o ≡ map_in v.trail o
   map-same = same-after (λ (t : Trail). map_in t o) (map-by v o o) fitted.writes
@@ -144,7 +140,7 @@ module _ (maps : MapsAreKept) (details : DetailsRise) (trees : NarrowTreesStay) 
           let most = heap.most Maps in
           subst (λ (s : Shape). c < s.maps) (sym fitted.shape) (omega (arith, used, most));
       filled = subst (λ (g : Option GateWord). IsSomeAnd g (λ y. HoldsEntries w.trail o c y)) (sym grown-there.is_open)
-          (holds-grown v.trail w.trail is-after o m (gate_with n false) fast c (key_of p) by.detail grown-there fitted.room fitted.words (form-between (kind_of p.held) Tagged by.detail.rep (slot_word w.trail o n) not-wide by.narrow form-there));
+          (holds-grown v.trail w.trail is-after o m (gate_with n false) fast c (key_of p) by.detail grown-there fitted.room fitted.words form-there);
       own = λ is_proto. absurd (true≢false (sym is_proto ∙ ap (λ (r : RootWord). r.is_proto) root-same ∙ shared));
     };
   }
@@ -155,7 +151,7 @@ module _ (maps : MapsAreKept) (details : DetailsRise) (trees : NarrowTreesStay) 
     new = with_write w (ObjectMap o (Some c))
 
     writes : Adds (Touches v o) v.trail new.trail
-    writes = adds-on (adds-wider (touches-by v o) fitted.writes) (map-moved v o w.trail (Some c))
+    writes = adds-on (adds-wider (touches-by v o) fitted.writes) (map-moved NoMap v o w.trail (Some c))
 
     moved-lawful : Lawful v.shape new.trail
     moved-lawful = subst (λ (s : Shape). Lawful s new.trail) fitted.shape moved_heap.lawful
@@ -174,7 +170,7 @@ module _ (maps : MapsAreKept) (details : DetailsRise) (trees : NarrowTreesStay) 
     grown-then : IsGrown new.trail m c n (key_of p) by.detail
     grown-then = grown-later v.trail new.trail after details-same m c n (gate_with n false) (key_of p) by.detail is_open refl by.grown
 
-    pub move-made : IsNarrowTree v.trail → IsMoved v (with_write w (ObjectMap o (Some c))) o m n p
+    pub move-made : IsTree v.trail → IsMovedBut NoMap v (with_write w (ObjectMap o (Some c))) o m n p
     move-made tree = record {
       child = c;
       changed = record {
@@ -186,7 +182,6 @@ module _ (maps : MapsAreKept) (details : DetailsRise) (trees : NarrowTreesStay) 
       };
       opens = λ k g none gate private parent. not-both (gate_in v.trail k) g none (sym (tree-same.gates k) ∙ gate);
       detail = by.detail;
-      narrow = by.narrow;
       grown = grown-then;
       shared = ap (λ (g : GateWord). g.is_private) (some-is grown-then.gate (gate_with (n + 1) false) (sym grown-then.is_open ∙ tree-same.gates c ∙ child));
       moved = ap (λ (b : Bool). cond b (Some c) (map_in w.trail o)) (eq-eqb o o refl);
@@ -194,10 +189,13 @@ module _ (maps : MapsAreKept) (details : DetailsRise) (trees : NarrowTreesStay) 
       room = fitted.room;
       words = fitted.words;
       form = form-there;
-      holds = ap (held_in (kind_of p.held) Tagged) last ∙ is;
+      holds = ap (held_in (kind_of p.held) by.detail.rep) last ∙ is;
       store = fitted.store;
       owns = fitted.owns;
       objects = ap (λ (s : Shape). s.objects) fitted.used;
+      dead = λ x dies there. absurd dies;
       other = other-gate v.trail c m n child is_open;
-      after = subst (λ (t : Trail). Adds (MarksAt m) t new.trail) (sym (marked-already v.trail m unstable)) (adds-on (adds-wider (fills-at v o m) fitted.writes) (adds-one w.trail (ObjectMap o (Some c)) tt));
+      more = ObjectMap o (Some c) ∷ fitted.writes.more;
+      after = ap (λ (t : Trail). ObjectMap o (Some c) ∷ t) fitted.writes.is ∙ ap (λ (t : Trail). (ObjectMap o (Some c) ∷ fitted.writes.more) ++ t) (sym (marked-already v.trail m unstable));
+      marks = λ x other stable now. absurd (true≢false (sym now ∙ ap (λ (b : MapBits). b.unstable) (same-after (λ (t : Trail). bits_in t x) (bits-by v o x) fitted.writes) ∙ stable));
     }

@@ -6,7 +6,7 @@ use Rattle.hc_heap.specs.Lawful.{Lawful}
 use Rattle.hc_facts.specs.Laws.{ConstantsStayOn}
 use Rattle.hc_table.specs.Changes.{Did, Nothing, Moved, Created, Added, Wrote, Reconfigured, Removed, Linked, Locked, Restricted}
 use Rattle.hc_modes.specs.Admitting.{FactsStay}
-use Rattle.hc_modes.specs.Came.{AreMoves, Became, Came, Effect, IsMove, IsStill, Left, Marked, Move, moves_before}
+use Rattle.hc_modes.specs.Came.{AreMoves, Became, Came, Effect, Generalised, IsMove, IsStill, Left, Marked, Migrated, Move, moves_before}
 use Rattle.hc_modes.specs.Laws.{move-shape, moves-shape}
 use Rattle.hc_modes.specs.State.{ObjectsState}
 use Rattle.hc_modes.proofs.Composing.{facts-none, facts-on}
@@ -19,6 +19,8 @@ module _ {P : Type 0} (went : P → List Access → List Access → P → Type 0
   move-keeps a b (Marked o) h = h.steps.keeps
   move-keeps a b (Became p) h = h.steps.keeps
   move-keeps a b (Left o cause) h = h.steps.keeps
+  move-keeps a b (Migrated o) h = h.replaced.steps.keeps
+  move-keeps a b (Generalised o i held) h = h.replaced.steps.keeps
 
   moves-keep : (a b : ObjectsState P) (moves : List Move) → Lawful a.heap.view.shape a.heap.view.trail → AreMoves went a moves b → FactsStay a.heap.view.shape a.heap.view.trail b.heap.view.trail
   moves-keep a b [] lawful h = still-keeps a b lawful h

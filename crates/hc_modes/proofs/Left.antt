@@ -9,8 +9,8 @@ use Rattle.hc_facts.specs.Laws.{HonestAfter, KeptIsCarried}
 use Rattle.hc_heap.specs.Frames.{extends-none}
 use Rattle.hc_heap.specs.States.{View, HeapState, IsHeap, Goes, one_load}
 use Rattle.hc_tree.specs.Growth.{marked, IsUnmoved}
-use Rattle.hc_tree.specs.Kept.{MapsAreKept}
-use Rattle.hc_modes.specs.Narrow.{IsNarrowTree, NarrowTreesStay}
+use Rattle.hc_tree.specs.Kept.{MapsAreKept, TreesStay}
+use Rattle.hc_tree.specs.Tree.{IsTree}
 use Rattle.hc_table.specs.Kept.{IsKept, with_world}
 use Rattle.hc_table.specs.World.{Object, World, object}
 use Rattle.hc_slots.specs.Meaning.{Dictionary, dictionary_object, object_shown}
@@ -49,7 +49,7 @@ set-object (y ∷ ys) (suc o) x lt is = ap (λ (zs : World). y ∷ zs) (set-obje
 pub fast-is : (old : View) (kept : List (Option Dictionary)) (of_null : Option ℕ) → IsObjects old kept of_null → (o : ℕ) → o < length kept → kept_of kept o ≡ None → object (world old.trail kept) o ≡ object_shown old.trail o None (map_in old.trail o)
 fast-is old kept of_null h o there fast = object-world old.trail kept o there ∙ ap (λ (i : Option Dictionary). object_shown old.trail o i (map_in old.trail o)) fast
 
-module _ (maps : MapsAreKept) (details : DetailsRise) (trees : NarrowTreesStay) (unused : UnusedSaysNothing) (old : View) (kept : List (Option Dictionary)) (of_null : Option ℕ) (h : IsObjects old kept of_null) (o : ℕ) (there : o < length kept) (fast : kept_of kept o ≡ None) (m : ℕ) (is_map : map_in old.trail o ≡ Some m) where
+module _ (maps : MapsAreKept) (details : DetailsRise) (trees : TreesStay) (unused : UnusedSaysNothing) (old : View) (kept : List (Option Dictionary)) (of_null : Option ℕ) (h : IsObjects old kept of_null) (o : ℕ) (there : o < length kept) (fast : kept_of kept o ≡ None) (m : ℕ) (is_map : map_in old.trail o ≡ Some m) where
   abbrev so : HasMap old.trail o
   so = has-map old kept of_null h o there fast
 
@@ -61,7 +61,7 @@ module _ (maps : MapsAreKept) (details : DetailsRise) (trees : NarrowTreesStay) 
   map-used = subst (λ (x : ℕ). x < old.used.maps) same (open-used unused old h.heap so.map so.gate so.fast.is_open)
 
   module _ (d : Dictionary) (value : dictionary_object d ≡ object_shown old.trail o None (map_in old.trail o)) (new : View) (is : new ≡ record old { trail = ObjectMap o None ∷ marked old.trail m })
-      (marked_tree : IsNarrowTree (marked old.trail m)) (marked_heap : IsHeap (record old { trail = marked old.trail m })) (heap : IsHeap new) where
+      (marked_tree : IsTree (marked old.trail m)) (marked_heap : IsHeap (record old { trail = marked old.trail m })) (heap : IsHeap new) where
     step-by : (x : ℕ) → x ≡ m → new ≡ record old { trail = ObjectMap o None ∷ marked old.trail x }
     step-by x e = subst (λ (y : ℕ). new ≡ record old { trail = ObjectMap o None ∷ marked old.trail y }) (sym e) is
 
@@ -70,7 +70,7 @@ module _ (maps : MapsAreKept) (details : DetailsRise) (trees : NarrowTreesStay) 
         let e = step-by so.map same in
         subst (λ (v : View). Stepped old v (Some d) o (dictionary_object d)) (sym e)
         (left-step maps details trees unused old kept of_null h o so d (subst IsHeap e heap)
-        (subst (λ (x : ℕ). IsNarrowTree (marked old.trail x)) (sym same) marked_tree)
+        (subst (λ (x : ℕ). IsTree (marked old.trail x)) (sym same) marked_tree)
         (subst (λ (x : ℕ). IsHeap (record old { trail = marked old.trail x })) (sym same) marked_heap))
 
     still : set (world old.trail kept) o (dictionary_object d) ≡ world old.trail kept

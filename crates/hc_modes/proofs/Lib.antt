@@ -1,4 +1,3 @@
-pub mod Narrowing
 pub mod GoingOn
 pub mod Rising
 pub mod Staying
@@ -44,6 +43,7 @@ pub mod AddingAlone
 pub mod Entering
 pub mod Created
 pub mod Rooted
+pub mod Fitting
 pub mod Found
 pub mod Likeness
 pub mod Relinked
@@ -61,3 +61,13 @@ pub mod Uncelled
 pub mod Celled
 pub mod Keeping
 pub mod Mapped
+pub mod Arriving
+pub mod Remade
+pub mod Generalised
+pub mod MovedOn
+pub mod Alive
+pub mod Replacing
+pub mod Updated
+pub mod Replaced
+pub mod Outgrown
+pub mod Readied

@@ -1,12 +1,12 @@
 -- A fast object that gets another prototype: what it asks, and what becomes of the objects.
-use Rattle.std.proofs.Common.{◌≡◌, ℕ, ◌+◌, ◌<◌, ◌≤◌, Bool, true, false, List, Option, Some, None, IfSome, length, refl, sym, ap, ◌∙◌, subst, arith}
+use Rattle.std.proofs.Common.{◌≡◌, ℕ, ◌<◌, Bool, true, false, List, Option, Some, None, IfSome, length, refl, sym, ap, ◌∙◌, subst, arith}
 use Rattle.std.specs.Prelude.{IsTrue, ◌↔◌, if◌then◌else◌}
 use Rattle.hc_layout.specs.declared.words.GateWord.{GateWord}
 use Rattle.hc_layout.specs.declared.words.StoreWord.{StoreWord}
 use Rattle.hc_heap.specs.Writes.{Trail}
 use Rattle.hc_heap.specs.Readings.{gate_in, map_in, root_in, store_in}
-use Rattle.hc_heap.specs.Lawful.{HoldsEntries, word_from}
-use Rattle.hc_heap.specs.Kept.{DetailsRise, GatesAreOpen}
+use Rattle.hc_heap.specs.Lawful.{HoldsEntries}
+use Rattle.hc_heap.specs.Kept.{DetailsRise}
 use Rattle.hc_heap.specs.States.{View}
 use Rattle.hc_descs.specs.Entries.{entries_in}
 use Rattle.hc_tree.specs.declared.need.Need.{Need}
@@ -22,17 +22,17 @@ use Rattle.hc_slots.specs.Meaning.{Dictionary, object_shown}
 use Rattle.hc_modes.specs.Meaning.{kept_of, object_at, world}
 use Rattle.hc_modes.specs.Came.{world_of}
 use Rattle.hc_modes.specs.State.{ObjectsState, AreRoots, IsObjects, tables_of}
-use Rattle.hc_slots.specs.Slots.{AreHandedOut, IsIn, SlotsStay}
+use Rattle.hc_slots.specs.Slots.{AreHandedOut, IsIn}
 use Rattle.hc_slots.specs.Fast.{IsFast}
 use Rattle.hc_modes.specs.Changes.{IsWell, KeptBut}
 use Rattle.hc_modes.specs.Linking.{IsRelinked, shared_need}
 use Rattle.hc_modes.specs.Modes.{IsWithin, both, link_need, need_by, walk_need}
 use Rattle.hc_modes.proofs.Adding.{its-gate, map-is}
-use Rattle.hc_modes.proofs.Likeness.{like-holds, like-object}
+use Rattle.hc_modes.proofs.Likeness.{like-object}
 use Rattle.hc_modes.proofs.Needing.{within-same}
 use Rattle.hc_modes.proofs.Operations.{object-fast}
 use Rattle.hc_modes.proofs.Shown.{within}
-use Rattle.hc_modes.proofs.Sound.{is-later, others-same, sound-after, tables-after}
+use Rattle.hc_modes.proofs.Sound.{others-same, sound-after, tables-after}
 use Rattle.hc_slots.specs.Cases.{some-is}
 use Rattle.hc_modes.proofs.Worlds.{length-world, world-set}
 use Rattle.hc_modes.proofs.Writing.{has-map}
@@ -77,32 +77,24 @@ module _ (v : View) (kept : List (Option Dictionary)) (null : Option ℕ) (h : I
   is-fast = record { is_open = linkable.is_open; holds = record { capacity = linkable.holds.capacity; slots = linkable.holds.slots }; private = sym shared }
 
   -- it came to another map
-  module _ (maps : MapsAreKept) (details : DetailsRise) (gates : GatesAreOpen) (keeps : ChangesKeep) (x : View) (then_null proto : Option ℕ) (it : IsRelinked v x null then_null o m g.entries proto) where
-    word-by : (first : Option ℕ) (k : ℕ) → word_from x.trail first k ≡ word_from v.trail first k
-    word-by (Some y) k = it.words (y + k)
-    word-by None k = refl
-
-    words-stay : SlotsStay v.trail x.trail o g.entries
-    words-stay k lt = ap (λ (y : StoreWord). word_from x.trail y.first k) it.store ∙ word-by (store_in v.trail o).first k
-
+  module _ (maps : MapsAreKept) (details : DetailsRise) (keeps : ChangesKeep) (x : View) (then_null proto : Option ℕ) (it : IsRelinked v x null then_null o m g.entries proto) where
     well : IsWell v x None o
     well = record {
       as_kept = record {
         map = it.map;
         gate = gate_with g.entries false;
-        is_map = it.moved;
+        is_map = it.resettled.moved;
         fast = record {
-          is_open = it.like.gate;
-          holds = like-holds v.trail x.trail (is-later maps details v x o h.heap it.changed) it.changed.tree (λ y k e. gates x.shape x.trail y k it.changed.heap.lawful e) o m it.map g.entries is-fast proto it.like
-              (subst (λ (y : StoreWord). g.entries ≤ y.capacity) (sym it.store) linkable.holds.capacity) words-stay;
+          is_open = it.resettled.gate;
+          holds = record { capacity = it.resettled.holds.capacity; slots = it.resettled.holds.slots };
           private = sym (it.protos o ∙ shared);
         };
       };
-      store = subst (λ (s : ℕ). AreHandedOut s (store_in x.trail o)) (sym it.slots) (subst (λ (y : StoreWord). AreHandedOut v.used.slots y) (sym it.store) (h.stores o));
-      owns = λ s owns lt. subst (λ (y : StoreWord). IsIn y s) it.store owns;
+      store = subst (λ (s : ℕ). AreHandedOut s (store_in x.trail o)) (sym it.slots) (subst (λ (y : StoreWord). AreHandedOut v.used.slots y) (sym it.resettled.store) (h.stores o));
+      owns = λ s owns lt. subst (λ (y : StoreWord). IsIn y s) it.resettled.store owns;
       alone = λ q k y other is_k was open_k.
-          let same : it.map ≡ k = some-is it.map k (sym it.moved ∙ is_k) in
-          let both_gates : gate_with g.entries false ≡ y = some-is (gate_with g.entries false) y (sym it.like.gate ∙ ap (gate_in x.trail) same ∙ open_k) in
+          let same : it.map ≡ k = some-is it.map k (sym it.resettled.moved ∙ is_k) in
+          let both_gates : gate_with g.entries false ≡ y = some-is (gate_with g.entries false) y (sym it.resettled.gate ∙ ap (gate_in x.trail) same ∙ open_k) in
           sym (ap (λ (z : GateWord). z.is_private) both_gates);
     }
 
@@ -112,8 +104,8 @@ module _ (v : View) (kept : List (Option Dictionary)) (null : Option ℕ) (h : I
     value : object_at x.trail kept o ≡ with_link (object (world v.trail kept) o) proto
     value =
         ap (λ (d : Option Dictionary). object_shown x.trail o d (map_in x.trail o)) fast
-        ∙ ap (λ (k : Option ℕ). object_shown x.trail o None k) it.moved
-        ∙ like-object v.trail x.trail (is-later maps details v x o h.heap it.changed) it.changed.tree (λ y k e. gates x.shape x.trail y k it.changed.heap.lawful e) o m it.map g.entries is-fast proto it.like words-stay
+        ∙ ap (λ (k : Option ℕ). object_shown x.trail o None k) it.resettled.moved
+        ∙ like-object v.trail x.trail o m it.map g.entries false is-fast proto it.resettled
         ∙ ap (λ (y : Object). with_link y proto) (sym (object-fast v.trail kept o m there fast is))
 
     -- the world has the prototype
@@ -168,16 +160,16 @@ module _ {P : Type 0} (a b : ObjectsState P) (o : ℕ) (proto : Option ℕ) (sam
       (subst (λ (s : ObjectsState P). IsTrue done ↔ HasSpace s.heap.view (shared_need a.heap.view.trail g.entries proto a.of_null)) same
       (subst (λ (x : View). IsTrue done ↔ HasSpace x (shared_need x.trail g.entries proto a.of_null)) (again ∙ read) room))
 
-  module _ (maps : MapsAreKept) (details : DetailsRise) (gates : GatesAreOpen) (keeps : ChangesKeep) (x : View) (then_null : Option ℕ) where
+  module _ (maps : MapsAreKept) (details : DetailsRise) (keeps : ChangesKeep) (x : View) (then_null : Option ℕ) where
     from : IsRelinked y x a.of_null then_null o m g.entries proto → IsRelinked a.heap.view x a.of_null then_null o m g.entries proto
     from it = subst (λ (v : View). IsRelinked v x a.of_null then_null o m g.entries proto) (again ∙ read) it
 
     pub call-world : IsRelinked y x a.of_null then_null o m g.entries proto → world x.trail a.kept ≡ with_proto (world a.heap.view.trail a.kept) o proto
-    call-world it = link-world a.heap.view a.kept a.of_null h o there fast-there shared-there m g is gate-there maps details gates keeps x then_null proto (from it)
+    call-world it = link-world a.heap.view a.kept a.of_null h o there fast-there shared-there m g is gate-there maps details keeps x then_null proto (from it)
 
     -- what holds of objects holds again
     pub call-sound : IsThere (world_of b) proto → reaches (world_of b) proto o ≡ false → (done : Bool) → (IsTrue done → IsRelinked y x a.of_null then_null o m g.entries proto) → (done ≡ false → x ≡ y) → (done ≡ false → then_null ≡ a.of_null) → IsObjects x a.kept then_null
-    call-sound is_there no_cycle true it still null_still = link-sound a.heap.view a.kept a.of_null h o there fast-there shared-there m g is gate-there maps details gates keeps x then_null proto (from (it refl))
+    call-sound is_there no_cycle true it still null_still = link-sound a.heap.view a.kept a.of_null h o there fast-there shared-there m g is gate-there maps details keeps x then_null proto (from (it refl))
         (subst (λ (s : ObjectsState P). IsThere (world_of s) proto) (sym same) is_there)
         (subst (λ (s : ObjectsState P). reaches (world_of s) proto o ≡ false) (sym same) no_cycle)
     call-sound is_there no_cycle false it still null_still =

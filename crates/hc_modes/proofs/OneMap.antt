@@ -16,7 +16,7 @@ use Rattle.hc_table.specs.World.{Object, props_at}
 use Rattle.hc_slots.specs.Listed.{listed, length-listed, listed-same, slice_get-listed}
 use Rattle.hc_slots.specs.Meaning.{Dictionary, prop_of, prop_in, proto_of, slot_word}
 use Rattle.hc_modes.specs.Meaning.{kept_of, world}
-use Rattle.hc_modes.specs.State.{ObjectsState, IsKeptSo, IsObjects}
+use Rattle.hc_modes.specs.State.{ObjectsState, IsKeptSo, IsLive, IsObjects}
 use Rattle.hc_slots.specs.Fast.{HasMap}
 use Rattle.hc_modes.specs.Changes.{key_of}
 use Rattle.hc_modes.specs.Came.{world_of}
@@ -103,12 +103,12 @@ module _ (gates : GatesAreOpen) (v : View) (kept : List (Option Dictionary)) (of
         shared true e = absurd (other (h.alone a b one.map one.gate in_a in_b one.is_map (two.is_map ∙ ap (λ (x : ℕ). Some x) (sym maps_same)) one.fast.is_open e))
 
     -- and where they are alike they have one map
-    pub map-of : AreAlike v.trail kept a b → (m n : ℕ) → map_in v.trail a ≡ Some m → map_in v.trail b ≡ Some n → m ≡ n
-    map-of alike m n is_a is_b =
+    pub map-of : IsLive v.trail a → IsLive v.trail b → AreAlike v.trail kept a b → (m n : ℕ) → map_in v.trail a ≡ Some m → map_in v.trail b ≡ Some n → m ≡ n
+    map-of live_a live_b alike m n is_a is_b =
         let mine : m ≡ one.map = some-is m one.map (sym is_a ∙ one.is_map) in
         let yours : n ≡ two.map = some-is n two.map (sym is_b ∙ two.is_map) in
         mine
-        ∙ one-map v.trail of_null h.tree.tree h.roots h.live (λ x g is. gates v.shape v.trail x g h.heap.lawful is) one.gate.entries one.map two.map one.gate two.gate one.fast.is_open two.fast.is_open (one.fast.private ∙ alike.shared_a) (two.fast.private ∙ alike.shared_b) refl (sym counts) prototypes keys
+        ∙ one-map v.trail of_null h.tree h.roots (λ x g is. gates v.shape v.trail x g h.heap.lawful is) one.gate.entries one.map two.map one.gate two.gate (live_a one.map one.is_map) (live_b two.map two.is_map) one.fast.is_open two.fast.is_open (one.fast.private ∙ alike.shared_a) (two.fast.private ∙ alike.shared_b) refl (sym counts) prototypes keys
         ∙ sym yours
       where
         lists : listed (λ k. key_of (prop_in v.trail a one.map k)) one.gate.entries ≡ listed (λ k. key_of (prop_in v.trail b two.map k)) two.gate.entries
@@ -156,8 +156,8 @@ module _ {P : Type 0} (gates : GatesAreOpen) (s : ObjectsState P) (h : IsObjects
   there_b : b < length s.kept
   there_b = subst (λ (k : ℕ). b < k) (length-world s.heap.view.trail s.kept) in_b
 
-  pub compared : a ≢ b → IsTrue (nat_eq m n) ↔ AreAlike s.heap.view.trail s.kept a b
-  compared other = (
+  pub compared : IsLive s.heap.view.trail a → IsLive s.heap.view.trail b → a ≢ b → IsTrue (nat_eq m n) ↔ AreAlike s.heap.view.trail s.kept a b
+  compared live_a live_b other = (
     (λ yes. alike-of gates s.heap.view s.kept s.of_null h a b there_a there_b (fast a m there_a is_a) (fast b n there_b is_b) m other is_a (is_b ∙ ap (λ (k : ℕ). Some k) (sym (eqb-true m n yes)))),
-    (λ alike. eq-eqb m n (map-of gates s.heap.view s.kept s.of_null h a b there_a there_b (fast a m there_a is_a) (fast b n there_b is_b) alike m n is_a is_b)),
+    (λ alike. eq-eqb m n (map-of gates s.heap.view s.kept s.of_null h a b there_a there_b (fast a m there_a is_a) (fast b n there_b is_b) live_a live_b alike m n is_a is_b)),
   )

@@ -1,4 +1,5 @@
 -- A write to a slot, a map that is left, and a map that is grown into, as steps of an object.
+use Rattle.hc_tree.specs.Details.{NoMap}
 use Rattle.std.proofs.Common.{◌≡◌, ◌≢◌, ℕ, ◌+◌, ◌<◌, Bool, true, false, cond, eq-eqb, List, [], ◌∷◌, ◌++◌, Option, Some, None, length, refl, sym, ap, ◌∙◌, subst, arith}
 use Rattle.std.proofs.Math.Nat.{le_refl}
 use Rattle.hc_layout.specs.declared.words.GateWord.{GateWord}
@@ -13,9 +14,8 @@ use Rattle.hc_heap.specs.Kept.{DetailsRise, UnusedSaysNothing}
 use Rattle.hc_heap.specs.Frames.{adds-on, goes-on-of}
 use Rattle.hc_heap.specs.States.{View, IsHeap, with_write}
 use Rattle.hc_descs.specs.Entries.{key_at, detail_at}
-use Rattle.hc_modes.specs.Narrow.{IsNarrowTree}
-use Rattle.hc_tree.specs.Kept.{MapsAreKept}
-use Rattle.hc_modes.specs.Narrow.{NarrowTreesStay}
+use Rattle.hc_tree.specs.Tree.{IsTree}
+use Rattle.hc_tree.specs.Kept.{MapsAreKept, TreesStay}
 use Rattle.hc_tree.specs.Growth.{marked}
 use Rattle.hc_table.specs.World.{with_list, held_at, object}
 use Rattle.hc_slots.specs.Meaning.{Dictionary, dictionary_object, held_in, slot_word, fast_object, fast_props, object_shown}
@@ -23,7 +23,7 @@ use Rattle.hc_modes.specs.Meaning.{kept_of, world}
 use Rattle.hc_slots.specs.Fast.{HasMap}
 use Rattle.hc_slots.specs.Slots.{IsIn, Owns, AreHandedOut, SlotsStay, owns-index}
 use Rattle.hc_modes.specs.State.{IsObjects}
-use Rattle.hc_modes.specs.Changes.{Changed, OpensNoRoot, Stepped, IsGrown, property}
+use Rattle.hc_modes.specs.Changes.{Changed, ChangedBut, OpensNoRoot, Stepped, SteppedBut, IsGrown, property}
 use Rattle.hc_slots.specs.Cases.{cond-other, not-both}
 use Rattle.hc_modes.proofs.Written.{prop-written, fast-written}
 use Rattle.hc_modes.proofs.Grown.{fast-grown}
@@ -41,7 +41,7 @@ object-fast t kept o m lt fast is =
     ∙ ap (λ (i : Option Dictionary). object_shown t o i (map_in t o)) fast
     ∙ ap (λ (h : Option ℕ). object_shown t o None h) is
 
-module _ (maps : MapsAreKept) (details : DetailsRise) (trees : NarrowTreesStay) (unused : UnusedSaysNothing) (old : View) (kept : List (Option Dictionary)) (of_null : Option ℕ) (h : IsObjects old kept of_null) (o : ℕ) (so : HasMap old.trail o) where
+module _ (maps : MapsAreKept) (details : DetailsRise) (trees : TreesStay) (unused : UnusedSaysNothing) (old : View) (kept : List (Option Dictionary)) (of_null : Option ℕ) (h : IsObjects old kept of_null) (o : ℕ) (so : HasMap old.trail o) where
   -- one slot is written
   module _ (k first w : ℕ) (key : Key) (d : Detail) (held : Held) (heap : IsHeap (with_write old (Slot (first + k) w))) (lt : k < so.gate.entries) (is : (store_in old.trail o).first ≡ Some first)
       (is_key : key_at old.trail so.map k ≡ Some key) (admits : detail_at old.trail so.map k ≡ Some d) (form : IsFormOf key.kind d.rep w) (holds : held_in key.kind d.rep w ≡ held) where
@@ -53,10 +53,10 @@ module _ (maps : MapsAreKept) (details : DetailsRise) (trees : NarrowTreesStay) 
 
     written : Changed old new o
     written = record {
-      writes = slot-written old o old.trail (first + k) w (λ used. owned);
+      writes = slot-written NoMap old o old.trail (first + k) w (λ used. owned);
       shape = refl;
       slots = le_refl old.used.slots;
-      tree = trees old.shape old.trail new.trail h.heap.lawful (goes-on-of old.shape (slot-written old o old.trail (first + k) w (λ used. owned)) heap.lawful) (slot-tree old.trail (first + k) w) h.tree;
+      tree = trees old.shape old.trail new.trail h.heap.lawful (goes-on-of old.shape (slot-written NoMap old o old.trail (first + k) w (λ used. owned)) heap.lawful) (slot-tree old.trail (first + k) w) h.tree;
       heap = heap;
     }
 
@@ -99,14 +99,14 @@ module _ (maps : MapsAreKept) (details : DetailsRise) (trees : NarrowTreesStay) 
         }
 
   -- the object grows into a map with one entry more
-  pub grown-step : (new : View) (c : ℕ) (key : Key) (d : Detail) (held : Held) → Changed old new o → OpensNoRoot old.trail new.trail
+  pub grown-step : {Dies : ℕ → Type 0} (new : View) (c : ℕ) (key : Key) (d : Detail) (held : Held) → ChangedBut Dies old new o → OpensNoRoot old.trail new.trail
       → so.gate.is_locked ≡ false → (grown : IsGrown new.trail so.map c so.gate.entries key d) → map_in new.trail o ≡ Some c
       → grown.gate.is_private ≡ (root_in new.trail o).is_proto
       → so.gate.entries < (store_in new.trail o).capacity → SlotsStay old.trail new.trail o so.gate.entries
       → IsFormOf key.kind d.rep (slot_word new.trail o so.gate.entries) → held_in key.kind d.rep (slot_word new.trail o so.gate.entries) ≡ held
       → AreHandedOut new.used.slots (store_in new.trail o) → ((s : ℕ) → Owns new.trail o s → s < old.used.slots → Owns old.trail o s)
       → ((p m : ℕ) (g : GateWord) → p ≢ o → map_in new.trail o ≡ Some m → map_in old.trail p ≡ Some m → gate_in new.trail m ≡ Some g → g.is_private ≡ false)
-      → Stepped old new None o (with_list (fast_object old.trail o so.map) (fast_props old.trail o so.map ++ property key held ∷ []))
+      → SteppedBut Dies old new None o (with_list (fast_object old.trail o so.map) (fast_props old.trail o so.map ++ property key held ∷ []))
   grown-step new c key d held changed opens unlocked grown moved private room words form holds store owns alone =
       let after = is-later maps details old new o h.heap changed in
       record {
@@ -133,7 +133,7 @@ module _ (maps : MapsAreKept) (details : DetailsRise) (trees : NarrowTreesStay) 
       }
 
   -- the object leaves its map
-  module _ (d : Dictionary) (heap : IsHeap (record old { trail = ObjectMap o None ∷ marked old.trail so.map })) (marked_tree : IsNarrowTree (marked old.trail so.map)) (marked_heap : IsHeap (record old { trail = marked old.trail so.map })) where
+  module _ (d : Dictionary) (heap : IsHeap (record old { trail = ObjectMap o None ∷ marked old.trail so.map })) (marked_tree : IsTree (marked old.trail so.map)) (marked_heap : IsHeap (record old { trail = marked old.trail so.map })) where
     abbrev left : View
     left = record old { trail = ObjectMap o None ∷ marked old.trail so.map }
 
@@ -153,10 +153,10 @@ module _ (maps : MapsAreKept) (details : DetailsRise) (trees : NarrowTreesStay) 
     pub left-step : Stepped old left (Some d) o (dictionary_object d)
     left-step = record {
       changed = record {
-        writes = adds-on (map-marked old o old.trail so.map) (map-moved old o (marked old.trail so.map) None);
+        writes = adds-on (map-marked NoMap old o old.trail so.map) (map-moved NoMap old o (marked old.trail so.map) None);
         shape = refl;
         slots = le_refl old.used.slots;
-        tree = trees old.shape (marked old.trail so.map) left.trail marked_heap.lawful (goes-on-of old.shape (map-moved old o (marked old.trail so.map) None) heap.lawful) (move-tree (marked old.trail so.map) o None) marked_tree;
+        tree = trees old.shape (marked old.trail so.map) left.trail marked_heap.lawful (goes-on-of old.shape (map-moved NoMap old o (marked old.trail so.map) None) heap.lawful) (move-tree (marked old.trail so.map) o None) marked_tree;
         heap = heap;
       };
       well = record {

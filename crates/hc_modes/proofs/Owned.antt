@@ -1,4 +1,5 @@
 -- A fast object becomes a prototype with a private map: that its writes are lawful, and the step that they make.
+use Rattle.hc_tree.specs.Details.{NoMap}
 use Rattle.hc_modes.proofs.Marking.{makes-at}
 use Rattle.std.proofs.Common.{◌≡◌, ℕ, ◌+◌, ◌<◌, ◌≤◌, Bool, true, false, cond, eq-eqb, true≢false, List, ◌∷◌, Option, Some, None, IfSome, length, refl, sym, ap, ◌∙◌, subst, arith}
 use Rattle.std.specs.Prelude.{IsSome, IsSomeAnd, IsTrue}
@@ -19,18 +20,16 @@ use Rattle.hc_heap.specs.declared.kind.Kind.TheVariants.{RootOfObject}
 use Rattle.hc_descs.specs.Entries.{count_of, entries_in}
 use Rattle.hc_tree.specs.Copying.{IsPrivateCopy, copy_need}
 use Rattle.hc_tree.specs.Growth.{MakesMap, MayBePrototype, marked}
-use Rattle.hc_tree.specs.Kept.{MapsAreKept}
-use Rattle.hc_modes.specs.Narrow.{NarrowTreesStay}
+use Rattle.hc_tree.specs.Kept.{MapsAreKept, TreesStay}
 use Rattle.hc_tree.specs.Needs.{with_need}
-use Rattle.hc_tree.specs.Tree.{gate_with}
-use Rattle.hc_modes.specs.Narrow.{IsNarrowTree}
+use Rattle.hc_tree.specs.Tree.{IsTree, gate_with}
 use Rattle.hc_table.specs.World.{Object}
 use Rattle.hc_modes.specs.Becoming.{IsOwned, with_proto}
 use Rattle.hc_modes.specs.Changes.{Touches, OpensNoRoot, Stepped}
 use Rattle.hc_slots.specs.Slots.{SlotsStay, IsIn, AreHandedOut}
 use Rattle.hc_slots.specs.Meaning.{Dictionary, fast_object, fast_props, is_extensible, object_shown, proto_of}
 use Rattle.hc_modes.specs.Meaning.{kept_of, world}
-use Rattle.hc_modes.proofs.Facts.{alike-rises, gone-constants, like-facts, words-same}
+use Rattle.hc_modes.proofs.Facts.{alike-anew, gone-constants, like-facts, words-same}
 use Rattle.hc_modes.specs.Admitting.{FactsStay}
 use Rattle.hc_facts.specs.Laws.{HonestAfter, KeptIsCarried, MovedIsCarried}
 use Rattle.hc_heap.specs.Kept.{StableIsKept}
@@ -93,7 +92,7 @@ module _ (old : View) (m : ℕ) (new : Trail) (adds : Adds (MakesMap old.used No
   copied-unstable = ap (λ (b : MapBits). b.unstable) (same-after (λ (t : Trail). bits_in t m) (bits-by old.used m) adds) ∙ marked-unstable old.trail m
 
   pub copied-touches : (o : ℕ) → Adds (Touches old o) old.trail new
-  copied-touches o = adds-on (map-marked old o old.trail m) (map-made old o old.used None (marked old.trail m) new adds)
+  copied-touches o = adds-on (map-marked NoMap old o old.trail m) (map-made NoMap old o old.used None (marked old.trail m) new adds)
 
 -- fields stay honest, and constants stay
 module _ (maps : MapsAreKept) (details : DetailsRise) (forms : FormsAreKept) (stable : StableIsKept) (honest : HonestAfter) (carried : KeptIsCarried) (carries : MovedIsCarried)
@@ -111,8 +110,8 @@ module _ (maps : MapsAreKept) (details : DetailsRise) (forms : FormsAreKept) (st
       let alike : IsAlike x.trail v.used.maps m n it.proto = alike-copy true it.proto x.trail v.used.maps m n v.used.fields it.copy in
       like-facts maps details forms stable honest carried carries v x kept null h o m v.used.maps n its.gate (gate_with n true) has is_open (sym (ap entries_in is_open)) it.changed it.moved
       (gone-constants maps details forms v x kept null h o it.changed stable m v.used.maps has it.moved (λ is. let lt = it.younger in omega (arith, is, lt))) alike.gate refl
-      (λ k lt. words-same v.trail x.trail o k it.store it.slots) alike.keys
-      (λ k f was d lt field admits now. alike-rises v.trail x.trail after.details v.used.maps m k f was d (alike.details k lt) field admits now)
+      alike.keys
+      (λ k f key was d lt is_key datum field admits now. alike-anew v.trail x.trail after.details o v.used.maps m k f was d (words-same v.trail x.trail o k it.store it.slots) (alike.details k lt) field admits now)
 
 -- an object with these words may have the copy, where it had the map
 module _ (old new : Trail) (after : IsLater old new) (o m c first : ℕ) (p : Option ℕ) (g : GateWord) (fast : IsFast old o m g) (copy : IsPrivateCopy true None p new c m (count_of old m) first)
@@ -143,7 +142,7 @@ pub record IsCopied (old mid : View) (m c : ℕ) (p : Option ℕ) : Type 0 where
   pub prototype : prototype_in old.trail m ≡ Some p
   pub marked_heap : IsHeap (record old { trail = marked old.trail m })
   pub heap : IsHeap mid
-  pub tree : IsNarrowTree mid.trail
+  pub tree : IsTree mid.trail
   pub shape : mid.shape ≡ old.shape
   pub used : mid.used ≡ with_need (copy_need true None (count_of old.trail m)) old.used
   pub number : c ≡ old.used.maps
@@ -153,7 +152,7 @@ pub record IsCopied (old mid : View) (m c : ℕ) (p : Option ℕ) : Type 0 where
 pub count-marked : (t : Trail) (m : ℕ) → count_of (marked t m) m ≡ count_of t m
 count-marked t m = marked-same (λ (u : Trail). count_of u m) t m (λ b. refl)
 
-pub copied-by : (old was mid : View) (m c : ℕ) (p : Option ℕ) → was ≡ record old { trail = marked old.trail m } → prototype_in old.trail m ≡ Some p → IsHeap was → IsHeap mid → IsNarrowTree mid.trail → mid.shape ≡ was.shape
+pub copied-by : (old was mid : View) (m c : ℕ) (p : Option ℕ) → was ≡ record old { trail = marked old.trail m } → prototype_in old.trail m ≡ Some p → IsHeap was → IsHeap mid → IsTree mid.trail → mid.shape ≡ was.shape
     → mid.used ≡ with_need (copy_need true None (count_of was.trail m)) was.used → c ≡ was.used.maps → IsPrivateCopy true None p mid.trail c m (count_of was.trail m) was.used.fields → Adds (MakesMap was.used None) was.trail mid.trail
     → IsCopied old mid m c p
 copied-by old was mid m c p is prototype whole heap tree shape used number copy writes = record {
@@ -182,7 +181,7 @@ pub marked-proto : (v : View) (m : ℕ) (p : Option ℕ) → MayBePrototype v.us
 marked-proto v m (Some q) h = (h.0, ap (λ (r : RootWord). r.is_proto) (marked-same (λ (t : Trail). root_in t q) v.trail m (λ b. refl)) ∙ h.1)
 marked-proto v m None h = tt
 
-module _ (maps : MapsAreKept) (details : DetailsRise) (trees : NarrowTreesStay) (unused : UnusedSaysNothing) (old : View) (heap : IsHeap old) (o m : ℕ) (so : HasMap old.trail o) (has : map_in old.trail o ≡ Some m) (shared : (root_in old.trail o).is_proto ≡ false) where
+module _ (maps : MapsAreKept) (details : DetailsRise) (trees : TreesStay) (unused : UnusedSaysNothing) (old : View) (heap : IsHeap old) (o m : ℕ) (so : HasMap old.trail o) (has : map_in old.trail o ≡ Some m) (shared : (root_in old.trail o).is_proto ≡ false) where
   fast-at : IsFast old.trail o m so.gate
   fast-at = subst (λ (x : ℕ). IsFast old.trail o x so.gate) (some-is so.map m (sym so.is_map ∙ has)) so.fast
 
@@ -233,8 +232,8 @@ module _ (maps : MapsAreKept) (details : DetailsRise) (trees : NarrowTreesStay) 
     pub own-now : IfSome (map_in (ObjectMap o (Some c) ∷ mid.trail) o) (λ x. IsOwnMap (ObjectMap o (Some c) ∷ mid.trail) x)
     own-now = subst (λ (h : Option ℕ). IfSome h (λ x. IsOwnMap (ObjectMap o (Some c) ∷ mid.trail) x)) (sym moved-map) (record { private = own-here.private; stable = own-here.stable })
 
-    pub own-tree : Lawful mid.shape (ObjectMap o (Some c) ∷ mid.trail) → IsNarrowTree (ObjectMap o (Some c) ∷ mid.trail)
-    own-tree lawful = trees mid.shape mid.trail (ObjectMap o (Some c) ∷ mid.trail) it.heap.lawful (goes-on-of mid.shape (map-moved old o mid.trail (Some c)) lawful) (move-tree mid.trail o (Some c)) it.tree
+    pub own-tree : Lawful mid.shape (ObjectMap o (Some c) ∷ mid.trail) → IsTree (ObjectMap o (Some c) ∷ mid.trail)
+    own-tree lawful = trees mid.shape mid.trail (ObjectMap o (Some c) ∷ mid.trail) it.heap.lawful (goes-on-of mid.shape (map-moved NoMap old o mid.trail (Some c)) lawful) (move-tree mid.trail o (Some c)) it.tree
 
     opens-mid : OpensNoRoot old.trail mid.trail
     opens-mid k g none gate = opens-one unused (record old { trail = marked old.trail m }) mid None it.heap it.writes (ap (λ (s : Shape). s.maps) it.used)
@@ -242,15 +241,15 @@ module _ (maps : MapsAreKept) (details : DetailsRise) (trees : NarrowTreesStay) 
         k g (marked-same (λ (t : Trail). gate_in t k) old.trail m (λ b. refl) ∙ none) gate
 
     -- the object is a prototype with a map of its own
-    pub own-done : (new : View) → new ≡ record mid { trail = with_proto (ObjectMap o (Some c) ∷ mid.trail) o } → IsNarrowTree new.trail → IsHeap new → IsOwned old new o m
+    pub own-done : (new : View) → new ≡ record mid { trail = with_proto (ObjectMap o (Some c) ∷ mid.trail) o } → IsTree new.trail → IsHeap new → IsOwned old new o m
     own-done new is tree whole = subst (λ (v : View). IsOwned old v o m) (sym is) (record {
       proto = p;
       prototype = it.prototype;
       changed = record {
-        writes = adds-on (copied-touches old m mid.trail it.writes o) (adds-on (map-moved old o mid.trail (Some c)) (proto-touches old o (ObjectMap o (Some c) ∷ mid.trail)));
+        writes = adds-on (copied-touches old m mid.trail it.writes o) (adds-on (map-moved NoMap old o mid.trail (Some c)) (proto-touches old o (ObjectMap o (Some c) ∷ mid.trail)));
         shape = it.shape;
         slots = let same = ap (λ (s : Shape). s.slots) it.used in omega (arith, same);
-        tree = subst (λ (v : View). IsNarrowTree v.trail) is tree;
+        tree = subst (λ (v : View). IsTree v.trail) is tree;
         heap = subst IsHeap is whole;
       };
       opens = opens-mid;
@@ -292,7 +291,7 @@ module _ (maps : MapsAreKept) (details : DetailsRise) (unused : UnusedSaysNothin
   after = is-later maps details old new o h.heap it.changed
 
   value : fast_object new.trail o old.used.maps ≡ fast_object old.trail o m
-  value = copy-object old.trail new.trail after o m old.used.maps old.used.fields it.proto so.gate fast-here it.copy it.store it.slots (h.tree.tree.maps m so.gate fast-here.is_open).unlocked it.prototype
+  value = copy-object old.trail new.trail after o m old.used.maps old.used.fields it.proto so.gate fast-here it.copy it.store it.slots (h.tree.maps m so.gate fast-here.is_open).unlocked it.prototype
 
   own-step : Stepped old new None o (object_shown old.trail o (kept_of kept o) (map_in old.trail o))
   own-step = record {

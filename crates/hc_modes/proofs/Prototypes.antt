@@ -9,10 +9,8 @@ use Rattle.hc_heap.specs.Lawful.{Lawful, LawfulRoot, IsOwnMap}
 use Rattle.hc_heap.specs.Kept.{Adds, DetailsRise, UnusedSaysNothing}
 use Rattle.hc_heap.specs.Frames.{adds-one, goes-on-of}
 use Rattle.hc_heap.specs.States.{View, IsHeap}
-use Rattle.hc_tree.specs.Kept.{MapsAreKept}
-use Rattle.hc_modes.specs.Narrow.{NarrowTreesStay}
-use Rattle.hc_tree.specs.Tree.{gate_with}
-use Rattle.hc_modes.specs.Narrow.{IsNarrowTree}
+use Rattle.hc_tree.specs.Kept.{MapsAreKept, TreesStay}
+use Rattle.hc_tree.specs.Tree.{IsTree, gate_with}
 use Rattle.hc_table.specs.Kept.{IsKept, with_world}
 use Rattle.hc_table.specs.World.{World}
 use Rattle.hc_heap.specs.Kept.{FormsAreKept, StableIsKept}
@@ -20,7 +18,7 @@ use Rattle.hc_facts.specs.Laws.{HonestAfter, KeptIsCarried}
 use Rattle.hc_modes.specs.Admitting.{FactsStay}
 use Rattle.hc_modes.proofs.Facts.{none-facts}
 use Rattle.hc_modes.specs.Becoming.{HasBecome, with_proto}
-use Rattle.hc_modes.specs.Changes.{Touches, Stepped}
+use Rattle.hc_modes.specs.Changes.{Touches, Stepped, SteppedBut}
 use Rattle.hc_slots.specs.Meaning.{Dictionary, dictionary_object, object_shown}
 use Rattle.hc_modes.specs.Meaning.{kept_of, world}
 use Rattle.hc_modes.specs.State.{IsKeptSo, IsObjects, tables_of}
@@ -40,20 +38,20 @@ pub proto-touches : (v : View) (o : ℕ) (t : Trail) → Adds (Touches v o) t (w
 proto-touches v o t = adds-one t (Root o (proto_word t o)) (record { proto = λ ne. absurd (ne refl); map = λ m is. is })
 
 -- the root that an object names is there
-root-there : UnusedSaysNothing → (v : View) → IsHeap v → IsNarrowTree v.trail → (o : ℕ) → IfSome (root_in v.trail o).map (λ r. r < v.shape.maps)
+root-there : UnusedSaysNothing → (v : View) → IsHeap v → IsTree v.trail → (o : ℕ) → IfSome (root_in v.trail o).map (λ r. r < v.shape.maps)
 root-there unused v heap tree o = by (root_in v.trail o).map refl
   where
     by : (root : Option ℕ) → (root_in v.trail o).map ≡ root → IfSome root (λ r. r < v.shape.maps)
     by (Some r) is =
-        let lt = open-used unused v heap r (gate_with 0 false) (tree.tree.roots o r is).gate in
+        let lt = open-used unused v heap r (gate_with 0 false) (tree.roots o r is).gate in
         let most = heap.most Maps in
         omega (arith, lt, most)
     by None is = tt
 
-pub proto-lawful : UnusedSaysNothing → (v : View) → IsHeap v → IsNarrowTree v.trail → (o : ℕ) → IfSome (map_in v.trail o) (λ m. IsOwnMap v.trail m) → LawfulRoot v.shape v.trail o (proto_word v.trail o)
+pub proto-lawful : UnusedSaysNothing → (v : View) → IsHeap v → IsTree v.trail → (o : ℕ) → IfSome (map_in v.trail o) (λ m. IsOwnMap v.trail m) → LawfulRoot v.shape v.trail o (proto_word v.trail o)
 proto-lawful unused v heap tree o own = record { stays = λ yes. refl; marks = λ no yes. own; there = root-there unused v heap tree o }
 
-pub proto-tree-on : NarrowTreesStay → (v : View) → IsHeap v → (o : ℕ) → Lawful v.shape (with_proto v.trail o) → IsNarrowTree v.trail → IsNarrowTree (with_proto v.trail o)
+pub proto-tree-on : TreesStay → (v : View) → IsHeap v → (o : ℕ) → Lawful v.shape (with_proto v.trail o) → IsTree v.trail → IsTree (with_proto v.trail o)
 proto-tree-on trees v heap o lawful tree =
     trees v.shape v.trail (with_proto v.trail o) heap.lawful (goes-on-of v.shape (proto-touches v o v.trail) lawful) (proto-tree v.trail o (proto_word v.trail o) refl) tree
 
@@ -82,8 +80,8 @@ became-from p a b c roots maps h = record {
 
 -- A step after which an object is as it was
 
-module _ (maps : MapsAreKept) (details : DetailsRise) (old new : View) (kept : List (Option Dictionary)) (of_null : Option ℕ) (h : IsObjects old kept of_null) (item : Option Dictionary) (o : ℕ) (there : o < length kept)
-    (step : Stepped old new item o (object_shown old.trail o (kept_of kept o) (map_in old.trail o))) (is : kept_of kept o ≡ item) where
+module _ {Dies : ℕ → Type 0} (maps : MapsAreKept) (details : DetailsRise) (old new : View) (kept : List (Option Dictionary)) (of_null : Option ℕ) (h : IsObjects old kept of_null) (item : Option Dictionary) (o : ℕ) (there : o < length kept)
+    (step : SteppedBut Dies old new item o (object_shown old.trail o (kept_of kept o) (map_in old.trail o))) (is : kept_of kept o ≡ item) where
   still : set (world old.trail kept) o (object_shown old.trail o (kept_of kept o) (map_in old.trail o)) ≡ world old.trail kept
   still = set-object (world old.trail kept) o (object_shown old.trail o (kept_of kept o) (map_in old.trail o)) (subst (λ (n : ℕ). o < n) (sym (length-world old.trail kept)) there) (object-world old.trail kept o there)
 
@@ -105,7 +103,7 @@ pub slow-none : (v : View) (kept : List (Option Dictionary)) (of_null : Option �
 slow-none v kept of_null h o there d slow = subst (λ (i : Option Dictionary). IsKeptSo v.trail o i) slow (h.each o there)
 
 module _ (maps : MapsAreKept) (details : DetailsRise) (v : View) (kept : List (Option Dictionary)) (of_null : Option ℕ) (h : IsObjects v kept of_null) (o : ℕ) (there : o < length kept) (d : Dictionary) (slow : kept_of kept o ≡ Some d)
-    (tree : IsNarrowTree (with_proto v.trail o)) (heap : IsHeap (record v { trail = with_proto v.trail o })) where
+    (tree : IsTree (with_proto v.trail o)) (heap : IsHeap (record v { trail = with_proto v.trail o })) where
   abbrev marked : View
   marked = record v { trail = with_proto v.trail o }
 

@@ -1,4 +1,5 @@
 -- An object with a private map comes to a copy of it, with another prototype.
+use Rattle.hc_tree.specs.Details.{NoMap}
 use Rattle.std.proofs.Common.{◌≡◌, ℕ, ◌≤◌, Bool, cond, Option, Some, None, IfSome, refl, sym, ap, ◌∙◌, subst, eq-eqb}
 use Rattle.std.specs.Prelude.{IsSomeAnd, IsTrue}
 use Rattle.hc_layout.specs.declared.words.GateWord.{GateWord}
@@ -10,8 +11,7 @@ use Rattle.hc_heap.specs.Kept.{DetailsRise, GoesOn, UnusedSaysNothing}
 use Rattle.hc_heap.specs.Frames.{adds-on, goes-on-of, adds-one}
 use Rattle.hc_heap.specs.States.{View, IsHeap, with_write}
 use Rattle.hc_descs.specs.Entries.{count_of, entries_in}
-use Rattle.hc_tree.specs.Kept.{MapsAreKept}
-use Rattle.hc_modes.specs.Narrow.{NarrowTreesStay}
+use Rattle.hc_tree.specs.Kept.{MapsAreKept, TreesStay}
 use Rattle.hc_tree.specs.Copying.{copy_need}
 use Rattle.hc_tree.specs.Needs.{with_need}
 use Rattle.hc_slots.specs.Fast.{IsFast}
@@ -22,7 +22,7 @@ use Rattle.hc_modes.proofs.Owning.{open-used}
 use Rattle.hc_modes.proofs.Steps.{move-tree}
 use Rattle.hc_modes.proofs.Touching.{map-moved}
 
-module _ (maps : MapsAreKept) (details : DetailsRise) (trees : NarrowTreesStay) (unused : UnusedSaysNothing) (fresh : Bool) (proto : Option ℕ) (v w : View) (o m : ℕ) (g : GateWord)
+module _ (maps : MapsAreKept) (details : DetailsRise) (trees : TreesStay) (unused : UnusedSaysNothing) (fresh : Bool) (proto : Option ℕ) (v w : View) (o m : ℕ) (g : GateWord)
     (heap : IsHeap v) (it : IsCopied fresh None proto v w m) (has : map_in v.trail o ≡ Some m) (fast : IsFast v.trail o m g) where
   count : count_of v.trail m ≡ g.entries
   count = ap entries_in fast.is_open
@@ -51,7 +51,7 @@ module _ (maps : MapsAreKept) (details : DetailsRise) (trees : NarrowTreesStay) 
     new = with_write w (ObjectMap o (Some v.used.maps))
 
     on : GoesOn w.shape w.trail new.trail
-    on = goes-on-of w.shape (map-moved v o w.trail (Some v.used.maps)) moved_heap.lawful
+    on = goes-on-of w.shape (map-moved NoMap v o w.trail (Some v.used.maps)) moved_heap.lawful
 
     pub moved-to-copy : IsMovedToCopy fresh v (with_write w (ObjectMap o (Some v.used.maps))) o m g.entries proto
     moved-to-copy =
@@ -59,7 +59,7 @@ module _ (maps : MapsAreKept) (details : DetailsRise) (trees : NarrowTreesStay) 
         let opens = copy-opens maps details unused fresh None proto v w m heap it in
         record {
           changed = record {
-            writes = adds-on changed.writes (map-moved v o w.trail (Some v.used.maps));
+            writes = adds-on changed.writes (map-moved NoMap v o w.trail (Some v.used.maps));
             shape = changed.shape;
             slots = changed.slots;
             tree = trees w.shape w.trail new.trail it.heap.lawful on (move-tree w.trail o (Some v.used.maps)) it.tree;

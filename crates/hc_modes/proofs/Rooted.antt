@@ -5,14 +5,11 @@ use Rattle.hc_layout.specs.declared.words.RootWord.{RootWord}
 use Rattle.hc_heap.specs.Writes.{Trail}
 use Rattle.hc_heap.specs.Readings.{gate_in, parent_in, prototype_in, root_in}
 use Rattle.hc_heap.specs.States.{View, HeapState, IsHeap}
-use Rattle.hc_tree.specs.Tree.{IsRoot, gate_with}
-use Rattle.hc_modes.specs.Narrow.{IsNarrowTree}
+use Rattle.hc_tree.specs.Tree.{IsTree, IsRoot, gate_with}
 use Rattle.hc_tree.specs.Needs.{with_need}
 use Rattle.hc_tree.specs.Growth.{IsStill, IsUnmoved, root_of, root_need, with_named_root, of_null_after}
 use Rattle.hc_modes.specs.State.{AreRoots}
 use Rattle.hc_slots.specs.Cases.{same-or, some-is, cond-other}
-use Rattle.hc_heap.specs.Readings.{detail_in}
-use Rattle.hc_tree.specs.Tree.{AreNarrow, IsTree}
 
 -- the trail after the root was made, where there was none
 abbrev pub rooted : Option ℕ → Trail → Option ℕ → ℕ → Trail
@@ -32,15 +29,15 @@ pub record IsRooted (v w : View) (null then_null proto : Option ℕ) (r : ℕ) :
   pub null_root : IfSome then_null (λ x. IsRoot w.trail None x)
   pub used : w.used ≡ with_need (root_need (root_of v.trail proto null)) v.used
   pub shape : w.shape ≡ v.shape
-  pub tree : IsNarrowTree w.trail
+  pub tree : IsTree w.trail
   pub heap : IsHeap w
 
 pub is-rooted : {P : Type 0} (a b : HeapState P) (null then_null proto : Option ℕ) (r : ℕ) → IsRoot b.view.trail proto r
     → (IsStill (root_of a.view.trail proto null) (Ok r) → IsUnmoved a b) → (IsStill (root_of a.view.trail proto null) (Ok r) → then_null ≡ null)
     → (root_of a.view.trail proto null ≡ None → b.view.trail ≡ with_named_root a.view.trail proto r) → (root_of a.view.trail proto null ≡ None → then_null ≡ of_null_after proto null r)
-    → IfSome then_null (λ x. IsRoot b.view.trail None x) → b.view.used ≡ with_need (root_need (root_of a.view.trail proto null)) a.view.used → b.view.shape ≡ a.view.shape → IsTree b.view.trail → IsHeap b.view → AreNarrow a.view.trail
+    → IfSome then_null (λ x. IsRoot b.view.trail None x) → b.view.used ≡ with_need (root_need (root_of a.view.trail proto null)) a.view.used → b.view.shape ≡ a.view.shape → IsTree b.view.trail → IsHeap b.view
     → IsRooted a.view b.view null then_null proto r
-is-rooted {P} a b null then_null proto r root still null_still made null_made null_root used shape tree heap narrow =
+is-rooted {P} a b null then_null proto r root still null_still made null_made null_root used shape tree heap =
     let both = by (root_of a.view.trail proto null) refl in
     record {
       root = root;
@@ -49,7 +46,7 @@ is-rooted {P} a b null then_null proto r root still null_still made null_made nu
       null_root = null_root;
       used = used;
       shape = shape;
-      tree = record { tree = tree; narrow = λ f d is. narrow f d (sym (same f) ∙ is) };
+      tree = tree;
       heap = heap;
     }
   where
@@ -58,14 +55,6 @@ is-rooted {P} a b null then_null proto r root still null_still made null_made nu
         let there : IsStill (root_of a.view.trail proto null) (Ok r) = subst (λ (x : Option ℕ). IsStill x (Ok r)) (sym e) tt in
         (ap (λ (s : HeapState P). s.view.trail) (still there), null_still there)
     by None e = (made e, null_made e)
-
-    detail-by : (x p : Option ℕ) (f : ℕ) → detail_in (rooted x a.view.trail p r) f ≡ detail_in a.view.trail f
-    detail-by (Some m) p f = refl
-    detail-by None None f = refl
-    detail-by None (Some q) f = refl
-
-    same : (f : ℕ) → detail_in b.view.trail f ≡ detail_in a.view.trail f
-    same f = ap (λ (t : Trail). detail_in t f) (by (root_of a.view.trail proto null) refl).0 ∙ detail-by (root_of a.view.trail proto null) proto f
 
 -- What a root that is made leaves as it was
 

@@ -21,25 +21,25 @@ dead-is : (t : Trail) (o : Option ℕ) (c : ℕ) → o ≡ Some c → IfSome o (
 dead-is t o c is h = subst (λ (x : Option ℕ). IfSome x (λ y. IsTrue (bits_in t y).deprecated)) is h
 
 -- two links of one key don't both lead to live maps
-one-live : (t : Trail) → ((m : ℕ) → (bits_in t m).deprecated ≡ false) → (ls : List ℕ) (i j d c : ℕ) → HaveOneLive t ls → i < j → j < length ls → link_key_in t (get_or ls j d) ≡ link_key_in t (get_or ls i d) → link_child_in t (get_or ls j d) ≡ Some c → ⊥
-one-live t live [] i j d c one lt within same leads = omega arith
-one-live t live (l ∷ ls) zero zero d c one lt within same leads = omega arith
-one-live t live (l ∷ ls) zero (suc j) d c one lt within same leads = true≢false (sym (dead-is t (link_child_in t (get_or ls j d)) c leads (one.0 j d (omega arith) same)) ∙ live c)
-one-live t live (l ∷ ls) (suc i) zero d c one lt within same leads = omega arith
-one-live t live (l ∷ ls) (suc i) (suc j) d c one lt within same leads = one-live t live ls i j d c one.1 (omega arith) (omega arith) same leads
+one-live : (t : Trail) (ls : List ℕ) (i j d c : ℕ) → (bits_in t c).deprecated ≡ false → HaveOneLive t ls → i < j → j < length ls → link_key_in t (get_or ls j d) ≡ link_key_in t (get_or ls i d) → link_child_in t (get_or ls j d) ≡ Some c → ⊥
+one-live t [] i j d c live one lt within same leads = omega arith
+one-live t (l ∷ ls) zero zero d c live one lt within same leads = omega arith
+one-live t (l ∷ ls) zero (suc j) d c live one lt within same leads = true≢false (sym (dead-is t (link_child_in t (get_or ls j d)) c leads (one.0 j d (omega arith) same)) ∙ live)
+one-live t (l ∷ ls) (suc i) zero d c live one lt within same leads = omega arith
+one-live t (l ∷ ls) (suc i) (suc j) d c live one lt within same leads = one-live t ls i j d c live one.1 (omega arith) (omega arith) same leads
 
 -- two live children of a map for one key are one
-two-children : (t : Trail) → ((m : ℕ) → (bits_in t m).deprecated ≡ false) → (ls : List ℕ) (a b m c : ℕ) → HaveOneLive t ls → Contains ls a → Contains ls b → link_key_in t a ≡ link_key_in t b → link_child_in t a ≡ Some m → link_child_in t b ≡ Some c → m ≡ c
-two-children t live ls a b m c one in_a in_b same leads_a leads_b = some-is m c (sym leads_a ∙ ap (link_child_in t) links ∙ leads_b)
+two-children : (t : Trail) (ls : List ℕ) (a b m c : ℕ) → (bits_in t m).deprecated ≡ false → (bits_in t c).deprecated ≡ false → HaveOneLive t ls → Contains ls a → Contains ls b → link_key_in t a ≡ link_key_in t b → link_child_in t a ≡ Some m → link_child_in t b ≡ Some c → m ≡ c
+two-children t ls a b m c live_m live_c one in_a in_b same leads_a leads_b = some-is m c (sym leads_a ∙ ap (link_child_in t) links ∙ leads_b)
   where
     at_b : get_or ls in_b.0 a ≡ b
     at_b = get_or-any ls in_b.0 a b in_b.1 ∙ in_b.2
 
     below : in_a.0 < in_b.0 → ⊥
-    below lt = one-live t live ls in_a.0 in_b.0 a c one lt in_b.1 (ap (link_key_in t) at_b ∙ sym same ∙ sym (ap (link_key_in t) in_a.2)) (ap (link_child_in t) at_b ∙ leads_b)
+    below lt = one-live t ls in_a.0 in_b.0 a c live_c one lt in_b.1 (ap (link_key_in t) at_b ∙ sym same ∙ sym (ap (link_key_in t) in_a.2)) (ap (link_child_in t) at_b ∙ leads_b)
 
     above : in_b.0 < in_a.0 → ⊥
-    above lt = one-live t live ls in_b.0 in_a.0 a m one lt in_a.1 (ap (link_key_in t) in_a.2 ∙ same ∙ sym (ap (link_key_in t) at_b)) (ap (link_child_in t) in_a.2 ∙ leads_a)
+    above lt = one-live t ls in_b.0 in_a.0 a m live_m one lt in_a.1 (ap (link_key_in t) in_a.2 ∙ same ∙ sym (ap (link_key_in t) at_b)) (ap (link_child_in t) in_a.2 ∙ leads_a)
 
     places : in_a.0 ≡ in_b.0
     places = omega (arith, below, above)
@@ -61,7 +61,7 @@ pub record IsUnder (t : Trail) (m : ℕ) (g : GateWord) : Type 0 where
   pub child : IsChildFor t parent gate m key
   pub entries : g.entries ≡ gate.entries + 1
 
-module _ (t : Trail) (of_null : Option ℕ) (tree : IsTree t) (roots : AreRoots t of_null) (live : (m : ℕ) → (bits_in t m).deprecated ≡ false) (opened : (m : ℕ) (g : GateWord) → gate_in t m ≡ Some g → IsOpen t m g) where
+module _ (t : Trail) (of_null : Option ℕ) (tree : IsTree t) (roots : AreRoots t of_null) (opened : (m : ℕ) (g : GateWord) → gate_in t m ≡ Some g → IsOpen t m g) where
   shared-parent : (q : ℕ) (h : GateWord) (l : ℕ) → gate_in t q ≡ Some h → Contains (links_in t q) l → h.is_private ≡ false
   shared-parent q h l is there = by h.is_private refl
     where
@@ -73,7 +73,7 @@ module _ (t : Trail) (of_null : Option ℕ) (tree : IsTree t) (roots : AreRoots 
           absurd (omega (arith, few))
 
   -- where a shared map stands
-  up : (m : ℕ) (g : GateWord) → gate_in t m ≡ Some g → g.is_private ≡ false → (C : Type 0) → (parent_in t m ≡ Some None → g.entries ≡ 0 → C) → (IsUnder t m g → C) → C
+  pub up : (m : ℕ) (g : GateWord) → gate_in t m ≡ Some g → g.is_private ≡ false → (C : Type 0) → (parent_in t m ≡ Some None → g.entries ≡ 0 → C) → (IsUnder t m g → C) → C
   up m g is shared C top under = by p.0 p.1
     where
       p : (v : Option ℕ) × (parent_in t m ≡ Some v)
@@ -106,10 +106,18 @@ module _ (t : Trail) (of_null : Option ℕ) (tree : IsTree t) (roots : AreRoots 
   pub is-under : (m : ℕ) (g : GateWord) → gate_in t m ≡ Some g → g.is_private ≡ false → 0 < g.entries → IsUnder t m g
   is-under m g is shared some = up m g is shared (IsUnder t m g) (λ top none. absurd (omega (arith, none, some))) (λ under. under)
 
-  -- shared maps with one prototype and the same keys are one
-  pub one-map : (n m c : ℕ) (g h : GateWord) → gate_in t m ≡ Some g → gate_in t c ≡ Some h → g.is_private ≡ false → h.is_private ≡ false → g.entries ≡ n → h.entries ≡ n
+  -- what stands above a live map is live
+  above-live : (m : ℕ) (g : GateWord) (a : IsUnder t m g) → (bits_in t m).deprecated ≡ false → (bits_in t a.parent).deprecated ≡ false
+  above-live m g a live = by (bits_in t a.parent).deprecated refl
+    where
+      by : (b : Bool) → (bits_in t a.parent).deprecated ≡ b → (bits_in t a.parent).deprecated ≡ false
+      by false e = e
+      by true e = absurd (true≢false (sym (a.child.deprecated e) ∙ live))
+
+  -- live shared maps with one prototype and the same keys are one
+  pub one-map : (n m c : ℕ) (g h : GateWord) → (bits_in t m).deprecated ≡ false → (bits_in t c).deprecated ≡ false → gate_in t m ≡ Some g → gate_in t c ≡ Some h → g.is_private ≡ false → h.is_private ≡ false → g.entries ≡ n → h.entries ≡ n
       → prototype_in t m ≡ prototype_in t c → ((k : ℕ) → k < n → key_at t m k ≡ key_at t c k) → m ≡ c
-  one-map zero m c g h is_m is_c shared_m shared_c few_m few_c proto keys =
+  one-map zero m c g h live_m live_c is_m is_c shared_m shared_c few_m few_c proto keys =
       up m g is_m shared_m (m ≡ c)
       (λ top_m none_m. up c h is_c shared_c (m ≡ c)
       (λ top_c none_c.
@@ -117,7 +125,7 @@ module _ (t : Trail) (of_null : Option ℕ) (tree : IsTree t) (roots : AreRoots 
       some-is m c (sym (roots.named m g p.0 is_m shared_m top_m p.1) ∙ roots.named c h p.0 is_c shared_c top_c (sym proto ∙ p.1)))
       (λ under. absurd (omega (arith, under.entries, few_c))))
       (λ under. absurd (omega (arith, under.entries, few_m)))
-  one-map (suc n) m c g h is_m is_c shared_m shared_c few_m few_c proto keys =
+  one-map (suc n) m c g h live_m live_c is_m is_c shared_m shared_c few_m few_c proto keys =
       up m g is_m shared_m (m ≡ c)
       (λ top none. absurd (omega (arith, none, few_m)))
       (λ a. up c h is_c shared_c (m ≡ c)
@@ -125,7 +133,7 @@ module _ (t : Trail) (of_null : Option ℕ) (tree : IsTree t) (roots : AreRoots 
       (λ b.
       let n_a : a.gate.entries ≡ n = omega (arith, a.entries, few_m) in
       let n_b : b.gate.entries ≡ n = omega (arith, b.entries, few_c) in
-      let parents : a.parent ≡ b.parent = one-map n a.parent b.parent a.gate b.gate a.is_open b.is_open a.shared b.shared n_a n_b (sym a.child.prototype ∙ proto ∙ b.child.prototype)
+      let parents : a.parent ≡ b.parent = one-map n a.parent b.parent a.gate b.gate (above-live m g a live_m) (above-live c h b live_c) a.is_open b.is_open a.shared b.shared n_a n_b (sym a.child.prototype ∙ proto ∙ b.child.prototype)
       (λ k lt.
       let in_a : k < a.gate.entries = omega (arith, lt, n_a) in
       let in_b : k < b.gate.entries = omega (arith, lt, n_b) in
@@ -136,4 +144,4 @@ module _ (t : Trail) (of_null : Option ℕ) (tree : IsTree t) (roots : AreRoots 
       let last : n < suc n = omega arith in
       let same : link_key_in t a.link ≡ link_key_in t b.link = a.is_key ∙ sym last_a ∙ keys n last ∙ last_b ∙ sym b.is_key in
       let there : Contains (links_in t a.parent) b.link = subst (λ (q : ℕ). Contains (links_in t q) b.link) (sym parents) b.there in
-      two-children t live (links_in t a.parent) a.link b.link m c (tree.maps a.parent a.gate a.is_open).live a.there there same a.leads b.leads))
+      two-children t (links_in t a.parent) a.link b.link m c live_m live_c (tree.maps a.parent a.gate a.is_open).live a.there there same a.leads b.leads))

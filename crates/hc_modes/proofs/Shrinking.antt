@@ -1,4 +1,5 @@
 -- A fast object that loses its last property: it comes back to the parent of its map.
+use Rattle.hc_tree.specs.Details.{NoMap}
 use Rattle.std.proofs.Common.{◌≡◌, ◌≢◌, ℕ, zero, suc, ◌+◌, ◌<◌, ◌≤◌, Bool, true, false, not, cond, eq-eqb, List, ◌∷◌, Option, Some, None, length, set, IfSome, refl, sym, ap, ◌∙◌, subst, true≢false, add-one, arith, inl}
 use Rattle.std.specs.Prelude.{IsSomeAnd, IsTrue, ◌&&◌, if◌then◌else◌, ⊤}
 use Rattle.std.proofs.Math.Nat.{le_refl}
@@ -19,7 +20,7 @@ use Rattle.hc_heap.specs.Frames.{adds-on, goes-on-of}
 use Rattle.hc_heap.specs.States.{View, IsHeap}
 use Rattle.hc_descs.specs.Entries.{key_at, field_at, entries_in, count_of, detail_of}
 use Rattle.hc_tree.specs.Growth.{marked}
-use Rattle.hc_modes.specs.Narrow.{IsNarrowTree}
+use Rattle.hc_tree.specs.Tree.{IsTree}
 use Rattle.hc_table.specs.Changes.{Removed, removed_at, with_removed}
 use Rattle.hc_table.specs.Kept.{IsKept, with_world}
 use Rattle.hc_table.specs.World.{Object, World, object, props_at, with_list}
@@ -31,7 +32,7 @@ use Rattle.hc_modes.specs.Meaning.{cause_in, kept_of, world}
 use Rattle.hc_slots.specs.Fast.{HasMap, IsFast}
 use Rattle.hc_slots.specs.Slots.{IsIn, AreHandedOut}
 use Rattle.hc_modes.specs.State.{IsObjects, ObjectsState, tables_of}
-use Rattle.hc_facts.specs.Honest.{HasDatum, IsFilled}
+use Rattle.hc_facts.specs.Honest.{HasDatum, IsFilled, value_in}
 use Rattle.hc_facts.specs.Laws.{HonestAfter, KeptIsCarried, MovedIsCarried}
 use Rattle.hc_modes.specs.Admitting.{FactsStay}
 use Rattle.hc_modes.specs.Changes.{Changed, Stepped}
@@ -120,7 +121,7 @@ module _ (laws : Laws) (old : View) (kept : List (Option Dictionary)) (of_null :
   count = ap (λ (ps : List Prop). length ps) (props-are old kept of_null h o there fast) ∙ length-listed (prop_in old.trail o so.map) (count_of old.trail so.map) ∙ count-is old kept of_null h o there fast
 
   under : IsUnder old.trail so.map so.gate
-  under = is-under old.trail of_null h.tree.tree h.roots h.live (λ m g is. laws.gates old.shape old.trail m g h.heap.lawful is) so.map so.gate so.fast.is_open (so.fast.private ∙ shared) (omega (arith, some, count))
+  under = is-under old.trail of_null h.tree h.roots (λ m g is. laws.gates old.shape old.trail m g h.heap.lawful is) so.map so.gate so.fast.is_open (so.fast.private ∙ shared) (omega (arith, some, count))
 
   -- its map has a parent
   parent-is : (m : ℕ) → map_in old.trail o ≡ Some m → parent_in old.trail m ≡ Some (Some under.parent)
@@ -141,7 +142,7 @@ module _ (laws : Laws) (old : View) (kept : List (Option Dictionary)) (of_null :
   pub has-parent : (m : ℕ) → map_in old.trail o ≡ Some m → (q : ℕ) × (parent_in old.trail m ≡ Some (Some q))
   has-parent m is = (under.parent, parent-is m is)
 
-  module _ (heap : IsHeap (record old { trail = ObjectMap o (Some under.parent) ∷ marked old.trail so.map })) (marked_tree : IsNarrowTree (marked old.trail so.map)) (marked_heap : IsHeap (record old { trail = marked old.trail so.map })) where
+  module _ (heap : IsHeap (record old { trail = ObjectMap o (Some under.parent) ∷ marked old.trail so.map })) (marked_tree : IsTree (marked old.trail so.map)) (marked_heap : IsHeap (record old { trail = marked old.trail so.map })) where
     abbrev back : View
     back = record old { trail = ObjectMap o (Some under.parent) ∷ marked old.trail so.map }
 
@@ -150,10 +151,10 @@ module _ (laws : Laws) (old : View) (kept : List (Option Dictionary)) (of_null :
 
     changed : Changed old back o
     changed = record {
-      writes = adds-on (map-marked old o old.trail so.map) (map-moved old o (marked old.trail so.map) (Some under.parent));
+      writes = adds-on (map-marked NoMap old o old.trail so.map) (map-moved NoMap old o (marked old.trail so.map) (Some under.parent));
       shape = refl;
       slots = le_refl old.used.slots;
-      tree = laws.trees old.shape (marked old.trail so.map) back.trail marked_heap.lawful (goes-on-of old.shape (map-moved old o (marked old.trail so.map) (Some under.parent)) heap.lawful) (move-tree (marked old.trail so.map) o (Some under.parent)) marked_tree;
+      tree = laws.trees old.shape (marked old.trail so.map) back.trail marked_heap.lawful (goes-on-of old.shape (map-moved NoMap old o (marked old.trail so.map) (Some under.parent)) heap.lawful) (move-tree (marked old.trail so.map) o (Some under.parent)) marked_tree;
       heap = heap;
     }
 
@@ -209,8 +210,9 @@ module _ (laws : Laws) (old : View) (kept : List (Option Dictionary)) (of_null :
           same_key = under.child.entries.keys k lt ∙ sym (stays (λ (t : Trail). key_at t under.parent k) (λ b. refl));
           is_field = under.child.entries.fields k lt ∙ (sym (stays (λ (t : Trail). field_at t under.parent k) (λ b. refl)) ∙ here.field);
           admits = was;
-          rises = at-some (RisesTo d) (detail_in back.trail f) d admits (after.details f d was);
-        }) (words k lt))
+          inside = (at-some (RisesTo d) (detail_in back.trail f) d admits (after.details f d was)).within;
+          same = ap (value_in d.rep) (words k lt);
+        }))
 
     back-facts : FormsAreKept → StableIsKept → HonestAfter → KeptIsCarried → MovedIsCarried → FactsStay old.shape old.trail back.trail
     back-facts forms stable honest carried carries = record {
@@ -227,7 +229,7 @@ module _ (laws : Laws) (old : View) (kept : List (Option Dictionary)) (of_null :
       shrunk : fast_object old.trail o under.parent ≡ less
       shrunk =
           let entries = under.entries in
-          parent-object old.trail o so.map so.gate so.fast.holds under n so.fast.is_open (omega (arith, entries, count, last)) (h.tree.tree.maps so.map so.gate so.fast.is_open).unlocked (h.tree.tree.maps under.parent under.gate under.is_open).unlocked
+          parent-object old.trail o so.map so.gate so.fast.holds under n so.fast.is_open (omega (arith, entries, count, last)) (h.tree.maps so.map so.gate so.fast.is_open).unlocked (h.tree.maps under.parent under.gate under.is_open).unlocked
 
       step : Stepped old back None o less
       step = record {
@@ -266,7 +268,7 @@ module _ (laws : Laws) (old : View) (kept : List (Option Dictionary)) (of_null :
         (subst (λ (x : Option GateWord). IsSomeAnd x (λ g. HoldsEntries old.trail o under.parent g)) (sym under.is_open) (holds-parent old.trail o so.map so.gate so.fast.holds under))
 
     module _ (n : ℕ) (last : length (props_at (world old.trail kept) o) ≡ n + 1)
-        (new : View) (is : new ≡ record old { trail = ObjectMap o (Some q) ∷ marked old.trail m }) (marked_tree : IsNarrowTree (marked old.trail m)) (marked_heap : IsHeap (record old { trail = marked old.trail m })) (heap : IsHeap new) where
+        (new : View) (is : new ≡ record old { trail = ObjectMap o (Some q) ∷ marked old.trail m }) (marked_tree : IsTree (marked old.trail m)) (marked_heap : IsHeap (record old { trail = marked old.trail m })) (heap : IsHeap new) where
       is_back : new ≡ record old { trail = ObjectMap o (Some under.parent) ∷ marked old.trail so.map }
       is_back =
           subst (λ (x : ℕ). new ≡ record old { trail = ObjectMap o (Some under.parent) ∷ marked old.trail x }) (sym same)
@@ -279,7 +281,7 @@ module _ (laws : Laws) (old : View) (kept : List (Option Dictionary)) (of_null :
       step-here =
           subst (λ (v : View). Stepped old v None o rest) (sym is_back)
           (step (subst IsHeap is_back heap)
-          (subst (λ (x : ℕ). IsNarrowTree (marked old.trail x)) (sym same) marked_tree)
+          (subst (λ (x : ℕ). IsTree (marked old.trail x)) (sym same) marked_tree)
           (subst (λ (x : ℕ). IsHeap (record old { trail = marked old.trail x })) (sym same) marked_heap)
           n last)
 
@@ -287,7 +289,7 @@ module _ (laws : Laws) (old : View) (kept : List (Option Dictionary)) (of_null :
       shrunk-facts forms stable honest carried carries =
           subst (λ (v : View). FactsStay old.shape old.trail v.trail) (sym is_back)
           (back-facts (subst IsHeap is_back heap)
-          (subst (λ (x : ℕ). IsNarrowTree (marked old.trail x)) (sym same) marked_tree)
+          (subst (λ (x : ℕ). IsTree (marked old.trail x)) (sym same) marked_tree)
           (subst (λ (x : ℕ). IsHeap (record old { trail = marked old.trail x })) (sym same) marked_heap)
           forms stable honest carried carries)
 

@@ -20,10 +20,10 @@ use Rattle.hc_slots.specs.Meaning.{Dictionary, object_shown}
 use Rattle.hc_modes.specs.Meaning.{kept_of, object_at, world}
 use Rattle.hc_modes.specs.State.{IsKeptSo, AreRoots, IsObjects, tables_of}
 use Rattle.hc_slots.specs.Slots.{IsIn, Owns, AreHandedOut}
-use Rattle.hc_modes.specs.Changes.{Touches, Changed, WordsStay, KeptBut, IsWell, OpensNoRoot}
+use Rattle.hc_modes.specs.Changes.{TouchesBut, ChangedBut, WordsStay, KeptBut, IsWell, OpensNoRoot}
 use Rattle.hc_modes.proofs.Staying.{IsLater, later, object-stays, kept-still, proto-stays}
 use Rattle.hc_slots.specs.Cases.{some-of, same-or, some-is}
-use Rattle.hc_modes.proofs.Sparing.{words-stay, live-stays, owned-used, named-stays, root-by}
+use Rattle.hc_modes.proofs.Sparing.{words-stay, owned-used, named-stays, root-by}
 
 -- a number is below another, or not
 pub below-or : (q n : ℕ) (C : Type 0) → (q < n → C) → (n ≤ q → C) → C
@@ -34,10 +34,10 @@ below-or q n C below past = by (nat_lt q n) refl
     by false e = past (grind (arith, nat_tests, e))
 
 -- after an operation on an object after which it is a prototype exactly where it was, all others are too
-pub protos-stay : (old : View) (new : Trail) (o : ℕ) → Adds (Touches old o) old.trail new → (root_in new o).is_proto ≡ (root_in old.trail o).is_proto → (p : ℕ) → (root_in new p).is_proto ≡ (root_in old.trail p).is_proto
-protos-stay old new o adds same p = same-or p o ((root_in new p).is_proto ≡ (root_in old.trail p).is_proto)
+pub protos-stay : {Dies : ℕ → Type 0} (old : View) (new : Trail) (o : ℕ) → Adds (TouchesBut Dies old o) old.trail new → (root_in new o).is_proto ≡ (root_in old.trail o).is_proto → (p : ℕ) → (root_in new p).is_proto ≡ (root_in old.trail p).is_proto
+protos-stay {Dies} old new o adds same p = same-or p o ((root_in new p).is_proto ≡ (root_in old.trail p).is_proto)
     (λ is. subst (λ (q : ℕ). (root_in new q).is_proto ≡ (root_in old.trail q).is_proto) (sym is) same)
-    (λ other. same-after (λ (t : Trail). (root_in t p).is_proto) (root-by old o p other) adds)
+    (λ other. same-after (λ (t : Trail). (root_in t p).is_proto) (root-by Dies old o p other) adds)
 
 -- more slots were handed out
 pub still-out : (slots more : ℕ) (w : StoreWord) → slots ≤ more → AreHandedOut slots w → AreHandedOut more w
@@ -57,7 +57,7 @@ null-stays old new after (Some r) h = record {
 }
 
 -- roots stay the ones that are named, while no root is made
-pub roots-stay : (old : View) (new : Trail) (o : ℕ) (of_null : Option ℕ) → IsLater old.trail new → Adds (Touches old o) old.trail new → OpensNoRoot old.trail new → AreRoots old.trail of_null → AreRoots new of_null
+pub roots-stay : {Dies : ℕ → Type 0} (old : View) (new : Trail) (o : ℕ) (of_null : Option ℕ) → IsLater old.trail new → Adds (TouchesBut Dies old o) old.trail new → OpensNoRoot old.trail new → AreRoots old.trail of_null → AreRoots new of_null
 roots-stay old new o of_null after adds opens h = record {
   null = null-stays old.trail new after of_null h.null;
   named = λ m g p gate shared parent prototype. by m g p gate shared parent prototype (gate_in old.trail m) refl;
@@ -75,7 +75,7 @@ roots-stay old new o of_null after adds opens h = record {
         let like = proto-stays old.trail new after m k is in
         named-still p m (h.named m k p is (ap (λ (x : GateWord). x.is_private) same ∙ shared) (up.1 ∙ sym (after.maps.written.parent m up.0 up.1) ∙ parent) (sym like ∙ prototype))
 
-module _ (maps : MapsAreKept) (details : DetailsRise) (old new : View) (o : ℕ) (before : IsHeap old) (changed : Changed old new o) where
+module _ {Dies : ℕ → Type 0} (maps : MapsAreKept) (details : DetailsRise) (old new : View) (o : ℕ) (before : IsHeap old) (changed : ChangedBut Dies old new o) where
   -- the trail is a later one
   pub is-later : IsLater old.trail new.trail
   is-later = later maps details old.shape old.trail new.trail before.lawful (goes-on-of old.shape changed.writes (subst (λ (s : Shape). Lawful s new.trail) changed.shape changed.heap.lawful))
@@ -83,7 +83,7 @@ module _ (maps : MapsAreKept) (details : DetailsRise) (old new : View) (o : ℕ)
   module _ (kept then : List (Option Dictionary)) (of_null : Option ℕ) (h : IsObjects old kept of_null) where
     -- another object's words and slots stay
     pub others-stay : (p : ℕ) → p ≢ o → WordsStay old.trail new.trail p
-    others-stay p other = words-stay old o p other new.trail changed.writes (h.stores p) (λ s mine its. other (h.owners p o s its mine))
+    others-stay p other = words-stay Dies old o p other new.trail changed.writes (h.stores p) (λ s mine its. other (h.owners p o s its mine))
 
     -- and so does its value
     pub others-same : KeptBut o kept then → (p : ℕ) → p < length kept → p ≢ o → object_at new.trail then p ≡ object_at old.trail kept p
@@ -97,7 +97,6 @@ module _ (maps : MapsAreKept) (details : DetailsRise) (old new : View) (o : ℕ)
     sound-after then_null but count well roots sound = record {
       heap = changed.heap;
       tree = changed.tree;
-      live = λ m. live-stays old new.trail o m changed.writes ∙ h.live m;
       roots = roots;
       items = count;
       each = λ p lt. same-or p o (IsKeptSo new.trail p (kept_of then p))

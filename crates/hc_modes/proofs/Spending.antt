@@ -6,7 +6,7 @@ use Rattle.hc_layout.specs.Capacity.{cap_of}
 use Rattle.hc_layout.specs.declared.capacity.TheConstants.{MAX_FAST}
 use Rattle.hc_layout.specs.declared.shape.Shape.{Shape}
 use Rattle.hc_layout.specs.declared.words.GateWord.{GateWord}
-use Rattle.hc_value.specs.declared.key.Key.{Key}
+use Rattle.hc_value.specs.declared.prop.Held.{Held}
 use Rattle.hc_value.specs.declared.prop.Prop.{Prop}
 use Rattle.hc_value.specs.declared.reply.Cause.{Cause}
 use Rattle.hc_value.specs.declared.reply.Cause.TheVariants.{Deleted, Many, Reconfigured as Changed, Space}
@@ -18,31 +18,27 @@ use Rattle.hc_heap.specs.Writes.{Trail}
 use Rattle.hc_descs.specs.Entries.{count_of, entries_in}
 use Rattle.hc_tree.specs.declared.need.Need.{Need}
 use Rattle.hc_tree.specs.Copying.{copy_need}
-use Rattle.hc_tree.specs.Growth.{child_need, live_child, root_need, root_of}
-use Rattle.hc_tree.specs.Needs.{HasSpace, array_of, no_need, with_need}
+use Rattle.hc_tree.specs.Growth.{child_need, fitting_child, root_need, root_of}
+use Rattle.hc_value.specs.declared.field.Constness.TheVariants.{Const}
+use Rattle.hc_modes.specs.Admitting.{held_detail}
+use Rattle.hc_tree.specs.Needs.{HasSpace, array_of, build_need, no_need, own_need, with_need}
+use Rattle.hc_update.specs.Renewing.{generalise_need}
 use Rattle.hc_table.specs.Changes.{Did, Nothing, Moved, Created, Added, Wrote, Reconfigured, Removed, Linked, Locked, Restricted, after}
 use Rattle.hc_table.specs.World.{World, props_at, new_object}
-use Rattle.hc_modes.specs.Came.{AreMoves, Became, Came, Effect, HasLeft, IsBecome, IsMarked, IsMove, IsStill, Left, Made, Marked, MayLeave, Move, marked_before, moves_before, moves_to_create, moves_to_link, world_of}
+use Rattle.hc_modes.specs.Came.{AreMoves, Became, Came, Effect, Generalised, HasGeneralised, HasLeft, HasMigrated, HasReplaced, IsBecome, IsMarked, IsMove, IsStill, LacksRoom, Left, Made, Marked, MayLeave, Migrated, Move, Moves, marked_before, moves_before, moves_to_create, moves_to_link, world_of}
 use Rattle.hc_modes.specs.Changes.{key_of}
 use Rattle.hc_slots.specs.Slots.{slots_need}
 use Rattle.hc_slots.specs.Meaning.{Dictionary}
 use Rattle.hc_modes.specs.Meaning.{cause_in, world}
 use Rattle.hc_modes.specs.Modes.{Becomes, IsCreated, IsOne, IsWithin, Modes, StaysFast, add_need, arrays_upto, both, grown_need, if_deleted, if_fast, if_many, link_need, need_by, need_of, proto_need, walk_need}
-use Rattle.hc_modes.specs.Spent.{IsNearlyFull, IsSpent, greatest_need, most_of_named, most_of_operation, times}
+use Rattle.hc_modes.specs.Spent.{IsNearlyFull, IsSpent, greatest_need, times}
 use Rattle.hc_modes.specs.State.{ObjectsState, IsObjects}
-use Rattle.hc_modes.proofs.Needing.{IsAtMost, same-least, no-less-need, no-less-on, none-least, within-none, within-same}
+use Rattle.hc_modes.proofs.Needing.{IsAtMost, arrays-rise, same-least, no-less-need, no-less-on, none-least, within-none, within-same}
 use Rattle.hc_modes.proofs.Items.{kept-past}
 use Rattle.hc_modes.proofs.Sound.{below-or}
 use Rattle.hc_slots.specs.Cases.{same-or}
 use Rattle.hc_modes.proofs.Worlds.{length-world}
 use mathlib.Core.Logic.{inl, inr}
-
--- the arrays of more maps have more entries
-arrays-rise : (k n : ℕ) → k ≤ n → arrays_upto k ≤ arrays_upto n
-arrays-rise k zero le = let is : k ≡ 0 = omega (arith, le) in subst (λ (x : ℕ). arrays_upto x ≤ arrays_upto 0) (sym is) (omega arith)
-arrays-rise k (suc n) le = same-or k (suc n) (arrays_upto k ≤ arrays_upto (suc n))
-    (λ is. subst (λ (x : ℕ). arrays_upto k ≤ arrays_upto x) is (omega arith))
-    (λ other. let before : k ≤ n = omega (arith, le, other) in let risen : arrays_upto k ≤ arrays_upto n = arrays-rise k n before in omega (arith, risen))
 
 -- Capacities
 
@@ -70,6 +66,10 @@ unfolding cap_of
 arrays-all = refl
 
 -- Needs
+
+-- the most that an object needs to become a prototype: a private map with new fields
+abbrev most_of_named : Need
+most_of_named = record { maps = 1; entries = MAX_FAST; fields = MAX_FAST; links = 0; slots = 0 }
 
 -- what a prototype needs is needed at once by some operation
 named-least : (k : Need) → IsAtMost k most_of_named → IsAtMost k greatest_need
@@ -99,9 +99,9 @@ child-most : (l : Option ℕ) (n : ℕ) → IsAtMost (child_need l n) most_of_gr
 child-most (Some c) n = none-least most_of_grown
 child-most None n = record { maps = omega arith; entries = cap-most (n + 1); fields = omega arith; links = omega arith; slots = omega arith }
 
-grown-most : (is_proto : Bool) (t : Trail) (m n : ℕ) (key : Key) → IsAtMost (grown_need is_proto t m n key) most_of_grown
-grown-most true t m n key = record { maps = omega arith; entries = cap-most (n + 1); fields = omega arith; links = omega arith; slots = omega arith }
-grown-most false t m n key = child-most (live_child t m key) n
+grown-most : (is_proto : Bool) (t : Trail) (m n : ℕ) (p : Prop) → IsAtMost (grown_need is_proto t m n p) most_of_grown
+grown-most true t m n p = record { maps = omega arith; entries = cap-most (n + 1); fields = omega arith; links = omega arith; slots = omega arith }
+grown-most false t m n p = child-most (fitting_child t m (key_of p) (held_detail t p.held Const)) n
 
 -- that, and slots
 added-most : (k : Need) (slots : ℕ) → IsAtMost k most_of_grown → slots ≤ MAX_FAST → IsAtMost (both k (record no_need { slots = slots })) greatest_need
@@ -143,6 +143,41 @@ walked-most n None few = record {
   slots = omega arith;
 }
 
+-- maps in the place of others: a walk, a new private map, or new maps from a place on
+update-most : (n : ℕ) → n ≤ MAX_FAST → IsAtMost (walk_need n) greatest_need
+update-most n few = record {
+  maps = omega (arith, few);
+  entries = let rise = arrays-rise n MAX_FAST few in omega (arith, rise);
+  fields = omega (arith, few);
+  links = omega (arith, few);
+  slots = omega arith;
+}
+
+own-most : (n : ℕ) → IsAtMost (own_need n) greatest_need
+own-most n = record {
+  maps = omega arith;
+  entries = let few = cap-most n in omega (arith, few, arrays-all);
+  fields = omega arith;
+  links = omega arith;
+  slots = omega arith;
+}
+
+build-most : (i n : ℕ) → n ≤ MAX_FAST → IsAtMost (build_need i n) greatest_need
+build-most i n few = record {
+  maps = omega (arith, few);
+  entries = let rise = arrays-rise n MAX_FAST few in omega (arith, rise);
+  fields = omega (arith, few);
+  links = omega (arith, few);
+  slots = omega arith;
+}
+
+generalise-most : (g : GateWord) (i : ℕ) → g.entries ≤ MAX_FAST → IsAtMost (generalise_need g i) greatest_need
+generalise-most g i few = by g.is_private
+  where
+    by : (b : Bool) → IsAtMost (cond b (own_need g.entries) (build_need i g.entries)) greatest_need
+    by true = own-most g.entries
+    by false = build-most i g.entries few
+
 linked-most : (is_proto : Bool) (n : ℕ) (r : Option ℕ) → n ≤ MAX_FAST → IsAtMost (cond is_proto (copy_need false None n) (both (walk_need n) (root_need r))) greatest_need
 linked-most true n r few = recopied-most n
 linked-most false n r few = walked-most n r few
@@ -174,10 +209,10 @@ module _ (t : Trail) (few : (m : ℕ) → count_of t m ≤ MAX_FAST) where
   add-most : (o : ℕ) (p : Prop) → IsAtMost (add_need t o p) greatest_need
   add-most o p = by (map_in t o)
     where
-      by : (h : Option ℕ) → IsAtMost (need_by h (λ m. both (grown_need (root_in t o).is_proto t m (count_of t m) (key_of p)) (record no_need { slots = slots_need (count_of t m) (store_in t o).capacity }))) greatest_need
+      by : (h : Option ℕ) → IsAtMost (need_by h (λ m. both (grown_need (root_in t o).is_proto t m (count_of t m) p) (record no_need { slots = slots_need (count_of t m) (store_in t o).capacity }))) greatest_need
       by None = none-least greatest_need
-      by (Some m) = added-most (grown_need (root_in t o).is_proto t m (count_of t m) (key_of p)) (slots_need (count_of t m) (store_in t o).capacity)
-          (grown-most (root_in t o).is_proto t m (count_of t m) (key_of p)) (slots-most (count_of t m) (store_in t o).capacity)
+      by (Some m) = added-most (grown_need (root_in t o).is_proto t m (count_of t m) p) (slots_need (count_of t m) (store_in t o).capacity)
+          (grown-most (root_in t o).is_proto t m (count_of t m) p) (slots-most (count_of t m) (store_in t o).capacity)
 
   link-most : (o : ℕ) (proto of_null : Option ℕ) → IsAtMost (link_need t o proto of_null) greatest_need
   link-most o proto of_null = by (map_in t o)
@@ -385,6 +420,9 @@ module _ (gates : GatesAreOpen) {P : Type 0} (went : P → List Access → List 
   abbrev AreFew : ObjectsState P → Type 0
   AreFew a = (m : ℕ) → count_of a.heap.view.trail m ≤ MAX_FAST
 
+  open-few : (a : ObjectsState P) (m : ℕ) (g : GateWord) → AreFew a → gate_in a.heap.view.trail m ≡ Some g → g.entries ≤ MAX_FAST
+  open-few a m g few is = subst (λ (x : Option GateWord). entries_in x ≤ MAX_FAST) is (few m)
+
   became-spends : (a b : ObjectsState P) (p : ℕ) → AreFew a → IsBecome went a p b → Spends most_of_named a b
   became-spends a b p few h = spends-by most_of_named a b
       (used-within (if_fast (cause_in b.kept p) (proto_need a.heap.view.trail p)) most_of_named a.heap.view.used b.heap.view.used h.used (fast-most a.heap.view.trail few p (cause_in b.kept p)))
@@ -395,14 +433,21 @@ module _ (gates : GatesAreOpen) {P : Type 0} (went : P → List Access → List 
       (space-least a.heap.view (proto_need a.heap.view.trail p) greatest_need (named-least _ (proto-most a.heap.view.trail few p)) room) h.mode))
       (λ different is. other (sym (h.others q different) ∙ is)))
 
+  -- where there is room for the greatest need, there is for each
+  lacks-none : (a : ObjectsState P) (o : ℕ) → AreFew a → HasSpace a.heap.view greatest_need → LacksRoom a o → ⊥
+  lacks-none a o few room (inl it) = it.full (space-least a.heap.view (add_need a.heap.view.trail o it.property) greatest_need (add-most a.heap.view.trail few o it.property) room)
+  lacks-none a o few room (inr (inl it)) = it.full (space-least a.heap.view (walk_need (count_of a.heap.view.trail it.map)) greatest_need (update-most (count_of a.heap.view.trail it.map) (few it.map)) room)
+  lacks-none a o few room (inr (inr it)) =
+      it.2.full (space-least a.heap.view (generalise_need it.2.gate it.0) greatest_need (generalise-most it.2.gate it.0 (open-few a it.2.map it.2.gate few it.2.is_open)) room)
+
   left-other : (a : ObjectsState P) (o : ℕ) (cause : Cause) → AreFew a → HasSpace a.heap.view greatest_need → MayLeave a o cause → Some cause ≢ Some Space
   left-other a o Many few room why is = let f : ⊥ = cc in f
   left-other a o Deleted few room why is = why
   left-other a o Changed few room why is = why
-  left-other a o Space few room why is = why.1 (space-least a.heap.view (add_need a.heap.view.trail o why.0) greatest_need (add-most a.heap.view.trail few o why.0) room)
+  left-other a o Space few room why is = lacks-none a o few room why
 
-  left-spends : (a b : ObjectsState P) (o : ℕ) (cause : Cause) → AreFew a → HasLeft went a o cause b → Spends most_of_named a b
-  left-spends a b o cause few h = spends-by most_of_named a b (within-same most_of_named a.heap.view.used b.heap.view.used h.used) h.steps.shape
+  left-spends : (a b : ObjectsState P) (o : ℕ) (cause : Cause) → AreFew a → HasLeft went a o cause b → Spends no_need a b
+  left-spends a b o cause few h = spends-by no_need a b (within-same no_need a.heap.view.used b.heap.view.used h.used) h.steps.shape
       (λ room q other. same-or q o (cause_in b.kept q ≢ Some Space)
       (λ same. subst (λ (k : ℕ). cause_in b.kept k ≢ Some Space) (sym same) (λ is. left-other a o cause few room h.why (sym h.slow ∙ is)))
       (λ different is. other (sym (h.others q different) ∙ is)))
@@ -411,7 +456,9 @@ module _ (gates : GatesAreOpen) {P : Type 0} (went : P → List Access → List 
   abbrev cost : Move → Need
   cost (Marked o) = no_need
   cost (Became p) = most_of_named
-  cost (Left o cause) = most_of_named
+  cost (Left o cause) = no_need
+  cost (Migrated o) = greatest_need
+  cost (Generalised o i held) = greatest_need
 
   abbrev costs : List Move → Need
   costs [] = no_need
@@ -421,15 +468,29 @@ module _ (gates : GatesAreOpen) {P : Type 0} (went : P → List Access → List 
   marked-spends a b o h = spends-by no_need a b (within-same no_need a.heap.view.used b.heap.view.used h.used) h.steps.shape
       (λ room q other is. other (sym (ap (λ (kept : List (Option Dictionary)). cause_in kept q) h.kept) ∙ is))
 
+  replaced-spends : {Dies : ℕ → Type 0} (need : Need) (a b : ObjectsState P) (o : ℕ) → IsAtMost need greatest_need → HasReplaced went Dies need a o b → Spends greatest_need a b
+  replaced-spends need a b o most h = spends-by greatest_need a b (within-least need greatest_need a.heap.view.used b.heap.view.used most h.needs) h.steps.shape
+      (λ room q other is. other (sym (ap (λ (kept : List (Option Dictionary)). cause_in kept q) h.kept) ∙ is))
+
+  migrated-spends : (a b : ObjectsState P) (o : ℕ) → AreFew a → HasMigrated went a o b → Spends greatest_need a b
+  migrated-spends a b o few h = replaced-spends (walk_need (count_of a.heap.view.trail h.map)) a b o (update-most (count_of a.heap.view.trail h.map) (few h.map)) h.replaced
+
+  generalised-spends : (a b : ObjectsState P) (o i : ℕ) (held : Held) → AreFew a → HasGeneralised went a o i held b → Spends greatest_need a b
+  generalised-spends a b o i held few h = replaced-spends (generalise_need h.gate i) a b o (generalise-most h.gate i (open-few a h.map h.gate few h.is_open)) h.replaced
+
   move-spends : (a b : ObjectsState P) (move : Move) → AreFew a → IsMove went a move b → Spends (cost move) a b
   move-spends a b (Marked o) few h = marked-spends a b o h
   move-spends a b (Became p) few h = became-spends a b p few h
   move-spends a b (Left o cause) few h = left-spends a b o cause few h
+  move-spends a b (Migrated o) few h = migrated-spends a b o few h
+  move-spends a b (Generalised o i held) few h = generalised-spends a b o i held few h
 
   move-few : (a b : ObjectsState P) (move : Move) → IsMove went a move b → AreFew b
   move-few a b (Marked o) h = few-in gates b.heap.view.shape b.heap.view.trail h.lawful
   move-few a b (Became p) h = few-in gates b.heap.view.shape b.heap.view.trail h.lawful
   move-few a b (Left o cause) h = few-in gates b.heap.view.shape b.heap.view.trail h.lawful
+  move-few a b (Migrated o) h = few-in gates b.heap.view.shape b.heap.view.trail h.replaced.lawful
+  move-few a b (Generalised o i held) h = few-in gates b.heap.view.shape b.heap.view.trail h.replaced.lawful
 
   moves-few : (a b : ObjectsState P) (moves : List Move) → AreFew a → AreMoves went a moves b → AreFew b
   moves-few a b [] few h = subst (λ (s : ObjectsState P). AreFew s) (sym h.is) few
@@ -439,14 +500,16 @@ module _ (gates : GatesAreOpen) {P : Type 0} (went : P → List Access → List 
   moves-spend a b [] few h = spends-still no_need a b h
   moves-spend a b (move ∷ moves) few h = spends-on (cost move) (costs moves) a h.0 b (move-spends a h.0 move few h.1) (moves-spend h.0 b moves (move-few a h.0 move h.1) h.2)
 
-  cost-least : (move : Move) → IsAtMost (cost move) most_of_named
-  cost-least (Marked o) = none-least most_of_named
-  cost-least (Became p) = same-least most_of_named
-  cost-least (Left o cause) = same-least most_of_named
+  cost-least : (move : Move) → IsAtMost (cost move) greatest_need
+  cost-least (Marked o) = none-least greatest_need
+  cost-least (Became p) = named-least most_of_named (same-least most_of_named)
+  cost-least (Left o cause) = none-least greatest_need
+  cost-least (Migrated o) = same-least greatest_need
+  cost-least (Generalised o i held) = same-least greatest_need
 
   -- one move at most
-  few-least : (moves : List Move) → length moves ≤ 1 → IsAtMost (costs moves) most_of_named
-  few-least [] few = none-least most_of_named
+  few-least : (moves : List Move) → length moves ≤ 1 → IsAtMost (costs moves) greatest_need
+  few-least [] few = none-least greatest_need
   few-least (move ∷ []) few = let one = cost-least move in record {
     maps = omega (arith, one.maps);
     entries = omega (arith, one.entries);
@@ -462,44 +525,57 @@ module _ (gates : GatesAreOpen) {P : Type 0} (went : P → List Access → List 
       made.steps.shape
       (λ room q other. modes-other a b few room did made.steps.world made.modes q other)
 
-  one-named : (p : ℕ) → IsAtMost (costs (Became p ∷ [])) most_of_named
+  one-named : (p : ℕ) → IsAtMost (costs (Became p ∷ [])) greatest_need
   one-named p = few-least (Became p ∷ []) (omega arith)
 
-  create-least : (proto : Option ℕ) → IsAtMost (costs (moves_to_create proto)) most_of_named
+  create-least : (proto : Option ℕ) → IsAtMost (costs (moves_to_create proto)) greatest_need
   create-least (Some p) = one-named p
-  create-least None = none-least most_of_named
+  create-least None = none-least greatest_need
 
-  marked-least : (was named : Option Cause) (o p : ℕ) → IsAtMost (costs (marked_before was named o (Became p ∷ []))) most_of_named
-  marked-least None (Some cause) o p = record { maps = omega arith; entries = omega arith; fields = omega arith; links = omega arith; slots = omega arith }
+  marked-least : (was named : Option Cause) (o p : ℕ) → IsAtMost (costs (marked_before was named o (Became p ∷ []))) greatest_need
+  marked-least None (Some cause) o p = let one = one-named p in record {
+    maps = omega (arith, one.maps);
+    entries = omega (arith, one.entries);
+    fields = omega (arith, one.fields);
+    links = omega (arith, one.links);
+    slots = omega (arith, one.slots);
+  }
   marked-least None None o p = one-named p
   marked-least (Some c) named o p = one-named p
 
-  link-least : (a : ObjectsState P) (o : ℕ) (proto : Option ℕ) → IsAtMost (costs (moves_to_link a o proto)) most_of_named
+  link-least : (a : ObjectsState P) (o : ℕ) (proto : Option ℕ) → IsAtMost (costs (moves_to_link a o proto)) greatest_need
   link-least a o (Some p) = marked-least (cause_in a.kept o) (cause_in a.kept p) o p
-  link-least a o None = none-least most_of_named
+  link-least a o None = none-least greatest_need
 
-  before-least : (a : ObjectsState P) (did : Did) → IsAtMost (costs (moves_before a did)) most_of_named
-  before-least a Nothing = none-least most_of_named
-  before-least a Moved = none-least most_of_named
+  before-least : (a : ObjectsState P) (did : Did) → IsAtMost (costs (moves_before a did)) greatest_need
+  before-least a Nothing = none-least greatest_need
+  before-least a Moved = none-least greatest_need
   before-least a (Created proto) = create-least proto
-  before-least a (Added o p) = none-least most_of_named
-  before-least a (Wrote o i held) = none-least most_of_named
-  before-least a (Reconfigured o i p) = none-least most_of_named
-  before-least a (Removed o i) = none-least most_of_named
+  before-least a (Added o p) = none-least greatest_need
+  before-least a (Wrote o i held) = none-least greatest_need
+  before-least a (Reconfigured o i p) = none-least greatest_need
+  before-least a (Removed o i) = none-least greatest_need
   before-least a (Linked o proto) = link-least a o proto
-  before-least a (Locked o) = none-least most_of_named
-  before-least a (Restricted o frozen) = none-least most_of_named
+  before-least a (Locked o) = none-least greatest_need
+  before-least a (Restricted o frozen) = none-least greatest_need
 
-  effect-spends : (a b : ObjectsState P) (did : Did) → AreFew a → Effect went a did b → Spends most_of_operation a b
-  effect-spends a b did few h = spends-on most_of_named greatest_need a h.mid b
-      (spends-more (costs (moves_before a did)) most_of_named a h.mid (before-least a did) (moves-spend a h.mid (moves_before a did) few h.moves))
+  -- an operation, and the moves before it
+  abbrev twice : Need
+  twice = both greatest_need greatest_need
+
+  effect-spends : (a b : ObjectsState P) (did : Did) → AreFew a → Effect went a did b → Spends twice a b
+  effect-spends a b did few h = spends-on greatest_need greatest_need a h.mid b
+      (spends-more (costs (moves_before a did)) greatest_need a h.mid (before-least a did) (moves-spend a h.mid (moves_before a did) few h.moves))
       (made-spends h.mid b did (moves-few a h.mid (moves_before a did) few h.moves) h.own)
 
-  came-spends : (a b : ObjectsState P) (did : Did) → AreFew a → Came went a did b → Spends most_of_operation a b
-  came-spends a b Nothing few h = spends-still most_of_operation a b h
-  came-spends a b Moved few h = spends-more most_of_named most_of_operation a b
+  moved-spends : (a b : ObjectsState P) → AreFew a → Moves went a b → Spends greatest_need a b
+  moved-spends a b few h = spends-more (costs h.moves) greatest_need a b (few-least h.moves h.few) (moves-spend a b h.moves few h.are)
+
+  came-spends : (a b : ObjectsState P) (did : Did) → AreFew a → Came went a did b → Spends twice a b
+  came-spends a b Nothing few h = spends-still twice a b h
+  came-spends a b Moved few h = spends-more greatest_need twice a b
       (record { maps = omega arith; entries = omega arith; fields = omega arith; links = omega arith; slots = omega arith })
-      (spends-more (costs h.moves) most_of_named a b (few-least h.moves h.few) (moves-spend a b h.moves few h.are))
+      (moved-spends a b few h)
   came-spends a b (Created proto) few h = effect-spends a b (Created proto) few h
   came-spends a b (Added o p) few h = effect-spends a b (Added o p) few h
   came-spends a b (Wrote o i held) few h = effect-spends a b (Wrote o i held) few h
@@ -509,18 +585,23 @@ module _ (gates : GatesAreOpen) {P : Type 0} (went : P → List Access → List 
   came-spends a b (Locked o) few h = effect-spends a b (Locked o) few h
   came-spends a b (Restricted o frozen) few h = effect-spends a b (Restricted o frozen) few h
 
-pub spent-none : {P : Type 0} (n : ℕ) (a : ObjectsState P) → IsSpent n a a
-spent-none {P} n a = record { within = within-none (times n most_of_operation) a.heap.view.used; shape = refl; space = λ o is. inl is }
+spent-as : {P : Type 0} (n : ℕ) (k : Need) (a b : ObjectsState P) → IsAtMost k (times n greatest_need) → Spends k a b → IsSpent n a b
+spent-as {P} n k a b most it = record { within = within-least k (times n greatest_need) a.heap.view.used b.heap.view.used most it.within; shape = it.shape; space = it.space }
 
-pub spent-one : GatesAreOpen → {P : Type 0} (went : P → List Access → List Access → P → Type 0) (a b : ObjectsState P) (did : Did) → IsObjects a.heap.view a.kept a.of_null → Came went a did b → IsSpent 1 a b
+pub spent-none : {P : Type 0} (n : ℕ) (a : ObjectsState P) → IsSpent n a a
+spent-none {P} n a = record { within = within-none (times n greatest_need) a.heap.view.used; shape = refl; space = λ o is. inl is }
+
+-- an operation, with the moves before it
+pub spent-one : GatesAreOpen → {P : Type 0} (went : P → List Access → List Access → P → Type 0) (a b : ObjectsState P) (did : Did) → IsObjects a.heap.view a.kept a.of_null → Came went a did b → IsSpent 2 a b
 spent-one gates {P} went a b did objects came =
-    let it : Spends most_of_operation a b = came-spends gates went a b did (few-in gates a.heap.view.shape a.heap.view.trail objects.heap.lawful) came in
-    record {
-      within = within-least most_of_operation (times 1 most_of_operation) a.heap.view.used b.heap.view.used
-          (record { maps = omega arith; entries = omega arith; fields = omega arith; links = omega arith; slots = omega arith }) it.within;
-      shape = it.shape;
-      space = it.space;
-    }
+    spent-as 2 (both greatest_need greatest_need) a b (record { maps = omega arith; entries = omega arith; fields = omega arith; links = omega arith; slots = omega arith })
+    (came-spends gates went a b did (few-in gates a.heap.view.shape a.heap.view.trail objects.heap.lawful) came)
+
+-- a move
+pub spent-moves : GatesAreOpen → {P : Type 0} (went : P → List Access → List Access → P → Type 0) (a b : ObjectsState P) → IsObjects a.heap.view a.kept a.of_null → Moves went a b → IsSpent 1 a b
+spent-moves gates {P} went a b objects moves =
+    spent-as 1 greatest_need a b (record { maps = omega arith; entries = omega arith; fields = omega arith; links = omega arith; slots = omega arith })
+    (moved-spends gates went a b (few-in gates a.heap.view.shape a.heap.view.trail objects.heap.lawful) moves)
 
 -- so much, and so much again
 times-both : (m n : ℕ) (k : Need) → IsAtMost (both (times m k) (times n k)) (times (m + n) k)
@@ -541,12 +622,31 @@ times-both (suc m) n k =
 
 pub spent-on : {P : Type 0} (m n : ℕ) (a b c : ObjectsState P) → IsSpent m a b → IsSpent n b c → IsSpent (m + n) a c
 spent-on {P} m n a b c first second =
-    let it : Spends (both (times m most_of_operation) (times n most_of_operation)) a c =
-    spends-on (times m most_of_operation) (times n most_of_operation) a b c
+    let it : Spends (both (times m greatest_need) (times n greatest_need)) a c =
+    spends-on (times m greatest_need) (times n greatest_need) a b c
     (record { within = first.within; shape = first.shape; space = first.space })
     (record { within = second.within; shape = second.shape; space = second.space }) in
     record {
-      within = within-least (both (times m most_of_operation) (times n most_of_operation)) (times (m + n) most_of_operation) a.heap.view.used c.heap.view.used (times-both m n most_of_operation) it.within;
+      within = within-least (both (times m greatest_need) (times n greatest_need)) (times (m + n) greatest_need) a.heap.view.used c.heap.view.used (times-both m n greatest_need) it.within;
       shape = it.shape;
       space = it.space;
     }
+
+-- more of it
+times-rise : (m n : ℕ) (k : Need) → m ≤ n → IsAtMost (times m k) (times n k)
+times-rise m zero k le = let is : m ≡ 0 = omega (arith, le) in subst (λ (x : ℕ). IsAtMost (times x k) (times 0 k)) (sym is) (same-least no_need)
+times-rise m (suc n) k le = same-or m (suc n) (IsAtMost (times m k) (times (suc n) k))
+    (λ is. subst (λ (x : ℕ). IsAtMost (times m k) (times x k)) is (same-least (times m k)))
+    (λ other.
+    let before : m ≤ n = omega (arith, le, other) in
+    let risen = times-rise m n k before in
+    record {
+      maps = omega (arith, risen.maps);
+      entries = omega (arith, risen.entries);
+      fields = omega (arith, risen.fields);
+      links = omega (arith, risen.links);
+      slots = omega (arith, risen.slots);
+    })
+
+pub spent-more : {P : Type 0} (m n : ℕ) (a b : ObjectsState P) → m ≤ n → IsSpent m a b → IsSpent n a b
+spent-more {P} m n a b le it = record { within = within-least (times m greatest_need) (times n greatest_need) a.heap.view.used b.heap.view.used (times-rise m n greatest_need le) it.within; shape = it.shape; space = it.space }

@@ -12,14 +12,14 @@ use Rattle.hc_table.specs.World.{Object, new_object, with_object}
 use Rattle.hc_slots.specs.Meaning.{Dictionary, dictionary_object, object_shown}
 use Rattle.hc_modes.specs.Meaning.{kept_of, world}
 use Rattle.hc_modes.specs.State.{IsObjects, AreRoots, tables_of}
-use Rattle.hc_modes.specs.Changes.{Changed, IsWell, Stepped}
+use Rattle.hc_modes.specs.Changes.{Changed, IsWell, Stepped, SteppedBut}
 use Rattle.hc_modes.proofs.Items.{kept-set, kept-set_here, kept-push, kept-push_here, length-push}
 use Rattle.hc_modes.proofs.Sound.{is-later, others-same, sound-after, roots-stay, tables-after}
 use Rattle.hc_modes.proofs.Worlds.{world-set, world-push}
 
 module _ (maps : MapsAreKept) (details : DetailsRise) (old new : View) (kept : List (Option Dictionary)) (of_null : Option ℕ) (h : IsObjects old kept of_null) where
   -- after a step of an object
-  module _ (item : Option Dictionary) (o : ℕ) (x : Object) (there : o < length kept) (step : Stepped old new item o x) where
+  module _ {Dies : ℕ → Type 0} (item : Option Dictionary) (o : ℕ) (x : Object) (there : o < length kept) (step : SteppedBut Dies old new item o x) where
     item-is : kept_of (set kept o item) o ≡ item
     item-is = kept-set_here kept o item there
 

@@ -9,7 +9,7 @@ use Rattle.hc_layout.specs.declared.words.StoreWord.{StoreWord}
 use Rattle.hc_value.specs.declared.field.Detail.{Detail}
 use Rattle.hc_value.specs.declared.key.Key.{Key}
 use Rattle.hc_heap.specs.Writes.{Write, Trail, Gate, Bits, ObjectMap, Root, Store, Slot}
-use Rattle.hc_tree.specs.Details.{NoMap, Reshapes}
+use Rattle.hc_tree.specs.Details.{Reshapes}
 use Rattle.hc_heap.specs.Readings.{gate_in, parent_in, prototype_in, bits_in, root_in, owner_in, detail_in}
 use Rattle.hc_heap.specs.Lawful.{IsOwnMap}
 use Rattle.hc_heap.specs.Kept.{Adds, UnusedSaysNothing}
@@ -54,9 +54,9 @@ pub bits-by : (used : Shape) (m : ℕ) (t : Trail) (w : Write) → MakesMap used
 bits-by used m t (Bits i b) e = let n : None ≡ Some i = e.0 in let f : ⊥ = cc in absurd f
 bits-by used m t _ e = refl
 
-reshape-gate : (used : Shape) (Gets : ℕ → Detail → Type 0) (m : ℕ) → m < used.maps → (t : Trail) (w : Write) → Reshapes used NoMap Gets t w → gate_in (w ∷ t) m ≡ gate_in t m
-reshape-gate used Gets m lt t (Gate i g) e = cond-other i m (Some g) (gate_in t m) (λ is. omega (arith, lt, e, is))
-reshape-gate used Gets m lt t _ e = refl
+reshape-gate : (used : Shape) (Dies : ℕ → Type 0) (Gets : ℕ → Detail → Type 0) (m : ℕ) → m < used.maps → (t : Trail) (w : Write) → Reshapes used Dies Gets t w → gate_in (w ∷ t) m ≡ gate_in t m
+reshape-gate used Dies Gets m lt t (Gate i g) e = cond-other i m (Some g) (gate_in t m) (λ is. omega (arith, lt, e, is))
+reshape-gate used Dies Gets m lt t _ e = refl
 
 -- after writes that leave the gates of the maps that were handed out
 module _ (P : Trail → Write → Type 0) (unused : UnusedSaysNothing) (old new : View) (heap : IsHeap new) (adds : Adds P old.trail new.trail) (gates : (m : ℕ) → m < old.used.maps → (t : Trail) (w : Write) → P t w → gate_in (w ∷ t) m ≡ gate_in t m) where
@@ -83,15 +83,15 @@ module _ (unused : UnusedSaysNothing) (old new : View) (p : Option ℕ) (heap : 
   pub opens-one : new.used.maps ≡ old.used.maps + 1 → ((g : GateWord) → gate_in new.trail old.used.maps ≡ Some g → g.is_private ≡ false → parent_in new.trail old.used.maps ≡ Some None → ⊥) → OpensNoRoot old.trail new.trail
   opens-one = one-opens (MakesMap old.used p) unused old new heap adds (gate-by old.used p)
 
-module _ (unused : UnusedSaysNothing) (old new : View) (Gets : ℕ → Detail → Type 0) (heap : IsHeap new) (adds : Adds (Reshapes old.used NoMap Gets) old.trail new.trail) where
+module _ (unused : UnusedSaysNothing) (old new : View) (Dies : ℕ → Type 0) (Gets : ℕ → Detail → Type 0) (heap : IsHeap new) (adds : Adds (Reshapes old.used Dies Gets) old.trail new.trail) where
   pub reshapes-gate : (m : ℕ) → m < old.used.maps → gate_in new.trail m ≡ gate_in old.trail m
-  reshapes-gate = gate-same (Reshapes old.used NoMap Gets) unused old new heap adds (reshape-gate old.used Gets)
+  reshapes-gate = gate-same (Reshapes old.used Dies Gets) unused old new heap adds (reshape-gate old.used Dies Gets)
 
   pub reshapes-none : new.used.maps ≡ old.used.maps → OpensNoRoot old.trail new.trail
-  reshapes-none = none-opens (Reshapes old.used NoMap Gets) unused old new heap adds (reshape-gate old.used Gets)
+  reshapes-none = none-opens (Reshapes old.used Dies Gets) unused old new heap adds (reshape-gate old.used Dies Gets)
 
   pub reshapes-one : new.used.maps ≡ old.used.maps + 1 → ((g : GateWord) → gate_in new.trail old.used.maps ≡ Some g → g.is_private ≡ false → parent_in new.trail old.used.maps ≡ Some None → ⊥) → OpensNoRoot old.trail new.trail
-  reshapes-one = one-opens (Reshapes old.used NoMap Gets) unused old new heap adds (reshape-gate old.used Gets)
+  reshapes-one = one-opens (Reshapes old.used Dies Gets) unused old new heap adds (reshape-gate old.used Dies Gets)
 
 -- the child of a map isn't a root
 pub child-no-root : (t : Trail) (m c : ℕ) → parent_in t c ≡ Some (Some m) → parent_in t c ≡ Some None → ⊥

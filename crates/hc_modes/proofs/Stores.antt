@@ -4,11 +4,11 @@ use Rattle.std.specs.Prelude.{IsTrue, IsSomeAnd, slice_get}
 use Rattle.hc_layout.specs.declared.words.StoreWord.{StoreWord}
 use Rattle.hc_value.specs.Field.{is_class_within, is_constness_within, is_detail_within, is_within, joined_detail}
 use Rattle.hc_value.specs.Prop.{kind_of}
-use Rattle.hc_value.specs.Word.{untagged_of}
 use Rattle.hc_value.specs.declared.field.Constness.{Constness}
 use Rattle.hc_value.specs.declared.field.Constness.TheVariants.{Const, Mutable}
 use Rattle.hc_value.specs.declared.field.Detail.{Detail}
-use Rattle.hc_value.specs.declared.field.Rep.TheVariants.{Tagged}
+use Rattle.hc_value.specs.Field.{in_place_of}
+use Rattle.hc_value.specs.declared.field.Rep.{Rep}
 use Rattle.hc_value.specs.declared.key.Key.{Key}
 use Rattle.hc_value.specs.declared.prop.Held.{Held}
 use Rattle.hc_value.specs.declared.prop.Held.TheVariants.{Datum, Pair}
@@ -16,7 +16,7 @@ use Rattle.hc_value.specs.declared.prop.Kind.{Kind}
 use Rattle.hc_value.specs.declared.prop.Kind.TheVariants.{AccessorProp, DataProp}
 use Rattle.hc_value.specs.declared.prop.Prop.{Prop}
 use Rattle.hc_heap.specs.Kept.{DetailsRise, FormsAreKept}
-use Rattle.hc_heap.specs.Lawful.{IsField, IsFormOf, word_from}
+use Rattle.hc_heap.specs.Lawful.{IsField, IsFormOf, RisesTo, word_from}
 use Rattle.hc_heap.specs.Readings.{detail_in, map_in, store_in, slot_in}
 use Rattle.hc_heap.specs.States.{View}
 use Rattle.hc_heap.specs.Writes.{FieldDetail, Slot, Trail}
@@ -30,17 +30,18 @@ use Rattle.hc_table.specs.World.{props_at}
 use Rattle.hc_slots.specs.Cases.{cond-other, same-or, some-is, some-of, some-and}
 use Rattle.hc_slots.specs.Fast.{HasMap}
 use Rattle.hc_slots.specs.Listed.{slice_get-listed}
-use Rattle.hc_slots.specs.Meaning.{Dictionary, IsConstnessFor, datum_of, fast_props, held_in, prop_in, prop_of, slot_word}
-use Rattle.hc_modes.specs.Admitting.{FactsStay, IsAdmitted, IsAsked, IsStored, held_detail}
+use Rattle.hc_slots.specs.Meaning.{Dictionary, IsConstnessFor, fast_props, held_in, prop_in, prop_of, slot_word}
+use Rattle.hc_modes.specs.Admitting.{FactsStay, HasRep, IsAdmitted, IsAsked, IsStored, held_detail}
 use Rattle.hc_modes.specs.Details.{DetailsAre, WroteGets}
 use Rattle.hc_modes.specs.Changes.{Changed}
 use Rattle.hc_modes.specs.Meaning.{kept_of, world}
 use Rattle.hc_modes.specs.State.{IsObjects}
 use Rattle.hc_modes.proofs.Admitted.{raised-same}
-use Rattle.hc_modes.proofs.Asked.{detail-right, join-held, parts, raised-is, raised-other}
-use Rattle.hc_modes.proofs.Facts.{at-some, datum-value, goes, one-constants, one-honest, value-narrow}
+use Rattle.hc_modes.proofs.Asked.{detail-right, join-held, raised-is, raised-other}
+use Rattle.hc_modes.proofs.Facts.{at-some, goes, one-constants, one-honest}
 use Rattle.hc_modes.proofs.Places.{kind-fast, place-fast}
-use Rattle.hc_modes.proofs.Rising.{form-between, held-between, not-wide}
+use Rattle.hc_modes.proofs.Fitting.{parts, rep-at, value-held}
+use Rattle.hc_modes.proofs.Rising.{form-rises, held-rises}
 use Rattle.hc_modes.proofs.Sound.{is-later}
 use Rattle.hc_modes.proofs.Staying.{IsLater}
 use Rattle.hc_modes.proofs.Writing.{count-is, has-map, props-are}
@@ -75,7 +76,7 @@ word-raised t f d None k = refl
 slot-raised : (t : Trail) (f : ℕ) (d : Detail) (o k : ℕ) → slot_word (raised t f d) o k ≡ slot_word t o k
 slot-raised t f d o k = ap (λ (w : StoreWord). word_from (raised t f d) w.first k) (raised-same (λ (u : Trail). store_in u o) t f d (λ e. refl)) ∙ word-raised t f d (store_in t o).first k
 
-module _ (w x : View) (o i : ℕ) (held : Held) (it : IsStored w x o i held) where
+module _ (w x : View) (o i : ℕ) (held : Held) (rep : Rep) (it : IsStored w x o i held rep) where
   stored-here : slot_word x.trail o i ≡ it.word
   stored-here =
       ap (λ (v : View). slot_word v.trail o i) it.view
@@ -93,7 +94,7 @@ module _ (w x : View) (o i : ℕ) (held : Held) (it : IsStored w x o i held) whe
 
 module _ (maps : MapsAreKept) (details : DetailsRise) (forms : FormsAreKept)
     (v w x : View) (kept : List (Option Dictionary)) (null : Option ℕ) (h : IsObjects v kept null) (o : ℕ) (there : o < length kept) (fast : kept_of kept o ≡ None) (i : ℕ) (held : Held)
-    (kind : kind_at (props_at (world v.trail kept) o) i ≡ Some (kind_of held)) (it : IsAsked v w o i held) (st : IsStored w x o i held) (changed : Changed v x o) where
+    (kind : kind_at (props_at (world v.trail kept) o) i ≡ Some (kind_of held)) (it : IsAsked v w o i held) (rep : Rep) (has : HasRep w.trail o i rep) (st : IsStored w x o i held rep) (changed : Changed v x o) where
   abbrev constness : Constness
   constness = it.constness
 
@@ -110,7 +111,7 @@ module _ (maps : MapsAreKept) (details : DetailsRise) (forms : FormsAreKept)
   word-v k = ap (λ (y : View). slot_word y.trail o k) ad.view ∙ slot-raised v.trail ad.field (held_detail v.trail held constness) o k
 
   word-other : (k : ℕ) → k ≢ i → slot_word x.trail o k ≡ slot_word v.trail o k
-  word-other k other = stored-other w x o i held st k other ∙ word-v k
+  word-other k other = stored-other w x o i held rep st k other ∙ word-v k
 
   detail-x : (f : ℕ) → detail_in x.trail f ≡ detail_in (raised v.trail ad.field (held_detail v.trail held constness)) f
   detail-x f = ap (λ (y : View). detail_in y.trail f) st.view ∙ ap (λ (y : View). detail_in y.trail f) ad.view
@@ -147,6 +148,14 @@ module _ (maps : MapsAreKept) (details : DetailsRise) (forms : FormsAreKept)
       raised-admits v.trail ad.field (held_detail v.trail held constness) d (subst (λ (y : ℕ). IsSome (detail_in v.trail y)) at.is_field at.made)
       (sym (detail-x ad.field) ∙ (ap (detail_in x.trail) (sym at.is_field) ∙ now))
 
+  -- the representation of the field afterwards
+  rep-now : (f : ℕ) (d : Detail) → AtPlace so.map f → detail_in x.trail f ≡ Some d → d.rep ≡ rep
+  rep-now f d at now =
+      let map : map_in w.trail o ≡ Some so.map = ap (λ (y : View). map_in y.trail o) ad.view ∙ (raised-same (λ (t : Trail). map_in t o) v.trail ad.field (held_detail v.trail held constness) (λ e. refl) ∙ so.is_map) in
+      let field : field_at w.trail so.map i ≡ Some f = ap (λ (y : View). field_at y.trail so.map i) ad.view ∙ (raised-same (λ (t : Trail). field_at t so.map i) v.trail ad.field (held_detail v.trail held constness) (λ e. refl) ∙ at.field) in
+      let same : detail_in w.trail f ≡ detail_in x.trail f = sym (ap (λ (y : View). detail_in y.trail f) st.view) in
+      rep-at w.trail o so.map i rep d has map (ap (detail_of w.trail) field ∙ (same ∙ now))
+
   -- the key's kind
   kinds : (key : Key) → key_at v.trail so.map i ≡ Some key → key.kind ≡ kind_of held
   kinds key is =
@@ -160,9 +169,10 @@ module _ (maps : MapsAreKept) (details : DetailsRise) (forms : FormsAreKept)
       by : (y : Held) → held ≡ y → IsGiven v.trail x.trail o i d
       by (Datum val) is =
           let within : IsTrue (is_detail_within (detail_for v.trail val constness) d) = subst (λ (y : Held). IsTrue (is_detail_within (held_detail v.trail y constness) d)) is (admits-asked so.map f d at now) in
-          let holds : datum_of (untagged_of st.word) ≡ Datum val = subst (λ (y : Held). held_in (kind_of y) Tagged st.word ≡ y) is st.holds in
+          let holds : held_in DataProp rep st.word ≡ Datum val = subst (λ (y : Held). held_in (kind_of y) rep st.word ≡ y) is st.holds in
+          let here : held_in DataProp d.rep st.word ≡ Datum val = ap (λ (r : Rep). held_in DataProp r st.word) (rep-now f d at now) ∙ holds in
           gives v.trail x.trail o i val constness d
-          (ap (value_in d.rep) (stored-here w x o i held st) ∙ (value-narrow d.rep st.word (changed.tree.narrow f d now) ∙ datum-value (untagged_of st.word) val holds)) within
+          (ap (value_in d.rep) (stored-here w x o i held rep st) ∙ value-held d.rep st.word val here) within
       by (Pair a b) is = let kind_is : DataProp ≡ AccessorProp = is_data ∙ ap kind_of is in let n : ⊥ = cc in absurd n
 
   filled : KeptIsCarried → StoredIsGiven → IsFilled v.trail x.trail o
@@ -218,18 +228,19 @@ module _ (maps : MapsAreKept) (details : DetailsRise) (forms : FormsAreKept)
           let within : IsTrue (is_detail_within (detail_for v.trail val constness) d) = subst (λ (y : Held). IsTrue (is_detail_within (held_detail v.trail y constness) d)) is (admits-asked m f d at now) in
           let asks : Detail = detail_for v.trail val constness in
           let constant : constness ≡ Const = const-of constness d.constness (parts (is_within asks.rep d.rep) (is_constness_within constness d.constness) (is_class_within asks.class d.class) within).1 const in
-          let narrow = h.tree.narrow f it.detail admits in
+          let rises : RisesTo it.detail d = at-some (RisesTo it.detail) (detail_in x.trail f) d now (after.details f it.detail admits) in
+          let place : IsTrue (in_place_of it.detail.rep rep) = subst (λ (r : Rep). IsTrue (in_place_of it.detail.rep r)) (rep-now f d (subst (λ (y : ℕ). AtPlace y f) at.is_map at) now) rises.in_place in
           let already : held_in (kind_of held) it.detail.rep (slot_word v.trail o i) ≡ held =
           subst (λ (c : Constness). IsConstnessFor it.detail.constness (held_in (kind_of held) it.detail.rep (slot_word v.trail o i)) held c) constant it.right in
-          let holds : held_in (kind_of held) Tagged (slot_word v.trail o i) ≡ held = held-between (kind_of held) Tagged it.detail.rep (slot_word v.trail o i) not-wide narrow ∙ already in
+          let holds : held_in (kind_of held) rep (slot_word v.trail o i) ≡ held = held-rises (kind_of held) it.detail.rep rep (slot_word v.trail o i) place ∙ already in
           let slot = some-and (key_at v.trail so.map i) (λ y. IsSomeAnd (field_at v.trail so.map i) (λ z. IsSomeAnd (detail_in v.trail z) (λ u. IsFormOf y.kind u.rep (slot_word v.trail o i)))) (so.fast.holds.slots i lt) in
           let the_key : slot.0 ≡ datum.key = some-is slot.0 datum.key (sym slot.1.0 ∙ key) in
           let its_field = some-and (field_at v.trail so.map i) (λ z. IsSomeAnd (detail_in v.trail z) (λ u. IsFormOf slot.0.kind u.rep (slot_word v.trail o i))) slot.1.1 in
           let the_field : its_field.0 ≡ f = some-is its_field.0 f (sym its_field.1.0 ∙ at.field) in
           let form_e : IsFormOf slot.0.kind it.detail.rep (slot_word v.trail o i) = at-some (λ (u : Detail). IsFormOf slot.0.kind u.rep (slot_word v.trail o i)) (detail_in v.trail its_field.0) it.detail (ap (detail_in v.trail) the_field ∙ admits) its_field.1.1 in
-          let form : IsFormOf (kind_of held) Tagged (slot_word v.trail o i) =
-          subst (λ (y : Kind). IsFormOf y Tagged (slot_word v.trail o i)) (ap (λ (k : Key). k.kind) the_key ∙ (datum.datum ∙ data_is)) (form-between slot.0.kind it.detail.rep Tagged (slot_word v.trail o i) narrow not-wide form_e) in
-          stored-here w x o i held st ∙ sym (st.alone (slot_word v.trail o i) form holds)
+          let form : IsFormOf (kind_of held) rep (slot_word v.trail o i) =
+          subst (λ (y : Kind). IsFormOf y rep (slot_word v.trail o i)) (ap (λ (k : Key). k.kind) the_key ∙ (datum.datum ∙ data_is)) (form-rises slot.0.kind it.detail.rep rep (slot_word v.trail o i) place form_e) in
+          stored-here w x o i held rep st ∙ sym (st.alone (slot_word v.trail o i) form holds)
       by (Pair a b) is = let kind_is : DataProp ≡ AccessorProp = data_is ∙ ap kind_of is in let n : ⊥ = cc in absurd n
 
   pub store-facts : HonestAfter → KeptIsCarried → StoredIsGiven → StoringKeepsConstants → FactsStay v.shape v.trail x.trail

@@ -5,7 +5,7 @@ use Rattle.hc_heap.specs.Writes.{Trail}
 use Rattle.hc_heap.specs.Readings.{object_cell_in, validity_in}
 use Rattle.hc_tree.specs.Growth.{marked}
 use Rattle.hc_table.specs.Changes.{Did, Nothing, Moved, Created, Added, Wrote, Reconfigured, Removed, Linked, Locked, Restricted}
-use Rattle.hc_modes.specs.Came.{AreMoves, Became, Came, IsMove, IsStill, Left, Marked, Move}
+use Rattle.hc_modes.specs.Came.{AreMoves, Became, Came, Generalised, IsMove, IsStill, Left, Marked, Migrated, Move}
 use Rattle.hc_modes.specs.Cells.{CellsStay}
 use Rattle.hc_modes.specs.State.{ObjectsState}
 use Rattle.hc_modes.proofs.Left.{marked-same}
@@ -29,6 +29,8 @@ module _ {P : Type 0} (went : P → List Access → List Access → P → Type 0
   move-cells a b (Marked o) h = subst (λ (t : Trail). CellsStay a.heap.view.trail t) (sym h.trail) (marked-cells a.heap.view.trail h.map)
   move-cells a b (Became p) h = h.how.marks.cells
   move-cells a b (Left o cause) h = h.marks.cells
+  move-cells a b (Migrated o) h = h.replaced.marks.cells
+  move-cells a b (Generalised o i held) h = h.replaced.marks.cells
 
   moves-cells : (a b : ObjectsState P) (moves : List Move) → AreMoves went a moves b → CellsStay a.heap.view.trail b.heap.view.trail
   moves-cells a b [] h = still-cells a b h

@@ -1,4 +1,5 @@
 -- The map of a fast object is made unstable: the objects are as they were.
+use Rattle.hc_tree.specs.Details.{NoMap}
 use Rattle.std.proofs.Common.{◌≡◌, ℕ, ◌<◌, List, Option, None, length, refl, sym, ap, ◌∙◌, subst}
 use Rattle.std.proofs.Math.Nat.{le_refl}
 use Rattle.hc_layout.specs.declared.words.StoreWord.{StoreWord}
@@ -8,7 +9,7 @@ use Rattle.hc_heap.specs.Kept.{DetailsRise, FormsAreKept, UnusedSaysNothing}
 use Rattle.hc_facts.specs.Laws.{HonestAfter, KeptIsCarried}
 use Rattle.hc_heap.specs.Frames.{goes-on-of}
 use Rattle.hc_heap.specs.States.{View, IsHeap}
-use Rattle.hc_modes.specs.Narrow.{IsNarrowTree}
+use Rattle.hc_tree.specs.Tree.{IsTree}
 use Rattle.hc_tree.specs.Kept.{MapsAreKept}
 use Rattle.hc_tree.specs.Growth.{marked}
 use Rattle.hc_slots.specs.Meaning.{Dictionary, object_shown, slot_word}
@@ -28,12 +29,12 @@ use Rattle.hc_modes.proofs.Touching.{map-marked}
 use Rattle.hc_modes.proofs.Writing.{has-map}
 
 module _ (maps : MapsAreKept) (details : DetailsRise) (unused : UnusedSaysNothing) (v : View) (kept : List (Option Dictionary)) (null : Option ℕ) (h : IsObjects v kept null) (o : ℕ) (there : o < length kept) (fast : kept_of kept o ≡ None) (m : ℕ)
-    (tree : IsNarrowTree (marked v.trail m)) (heap : IsHeap (record v { trail = marked v.trail m })) where
+    (tree : IsTree (marked v.trail m)) (heap : IsHeap (record v { trail = marked v.trail m })) where
   abbrev then : View
   then = record v { trail = marked v.trail m }
 
   after : IsLater v.trail then.trail
-  after = later maps details v.shape v.trail then.trail h.heap.lawful (goes-on-of v.shape (map-marked v o v.trail m) heap.lawful)
+  after = later maps details v.shape v.trail then.trail h.heap.lawful (goes-on-of v.shape (map-marked NoMap v o v.trail m) heap.lawful)
 
   so : HasMap v.trail o
   so = has-map v kept null h o there fast
@@ -57,7 +58,7 @@ module _ (maps : MapsAreKept) (details : DetailsRise) (unused : UnusedSaysNothin
 
   step : Stepped v then None o (object_shown v.trail o (kept_of kept o) (map_in v.trail o))
   step = record {
-    changed = record { writes = map-marked v o v.trail m; shape = refl; slots = le_refl v.used.slots; tree = tree; heap = heap };
+    changed = record { writes = map-marked NoMap v o v.trail m; shape = refl; slots = le_refl v.used.slots; tree = tree; heap = heap };
     well = record {
       as_kept = kept-still v.trail then.trail after o None stay so;
       store = subst (λ (w : StoreWord). AreHandedOut v.used.slots w) (sym store-same) (h.stores o);

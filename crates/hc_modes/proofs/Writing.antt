@@ -2,7 +2,7 @@
 use Rattle.std.proofs.Common.{◌≡◌, ℕ, ◌+◌, ◌<◌, List, Option, Some, None, length, set, refl, sym, ap, ◌∙◌, subst, arith}
 use Rattle.std.specs.Prelude.{IsSomeAnd}
 use Rattle.hc_value.specs.Prop.{kind_of}
-use Rattle.hc_value.specs.declared.field.Rep.TheVariants.{Tagged}
+use Rattle.hc_value.specs.declared.field.Rep.{Rep}
 use Rattle.hc_value.specs.declared.prop.Held.{Held}
 use Rattle.hc_value.specs.declared.prop.Kind.{Kind}
 use Rattle.hc_heap.specs.Writes.{Slot}
@@ -11,9 +11,7 @@ use Rattle.hc_heap.specs.Lawful.{IsFormOf, key_from, field_from}
 use Rattle.hc_heap.specs.Kept.{DetailsRise, GatesAreOpen, UnusedSaysNothing}
 use Rattle.hc_heap.specs.States.{View, IsHeap, with_write}
 use Rattle.hc_descs.specs.Entries.{key_at, field_at, entries_in, count_of, detail_of, detail_at}
-use Rattle.hc_tree.specs.Tree.{IsNarrow}
-use Rattle.hc_tree.specs.Kept.{MapsAreKept}
-use Rattle.hc_modes.specs.Narrow.{NarrowTreesStay}
+use Rattle.hc_tree.specs.Kept.{MapsAreKept, TreesStay}
 use Rattle.hc_table.specs.Changes.{Wrote, kind_at}
 use Rattle.hc_table.specs.Ranges.{IsHeldInRange}
 use Rattle.hc_table.specs.Kept.{IsKept, ChangesKeep, with_world}
@@ -26,7 +24,8 @@ use Rattle.hc_modes.specs.Changes.{Changed, Stepped}
 use Rattle.hc_slots.specs.Entries.{EntryIs, entry-is}
 use Rattle.hc_modes.proofs.Places.{place-fast, kind-fast}
 use Rattle.hc_modes.proofs.Operations.{object-fast, written-step}
-use Rattle.hc_modes.proofs.Rising.{form-between, held-between, not-wide}
+use Rattle.hc_modes.specs.Admitting.{HasRep}
+use Rattle.hc_modes.proofs.Fitting.{rep-at}
 use Rattle.hc_modes.proofs.Stepping.{stepped-world, stepped-sound, set-same}
 
 -- a fast object has a map, which says what it is
@@ -47,7 +46,7 @@ module _ (old : View) (kept : List (Option Dictionary)) (of_null : Option ℕ) (
 pub record Laws : Type 0 where
   pub maps : MapsAreKept
   pub details : DetailsRise
-  pub trees : NarrowTreesStay
+  pub trees : TreesStay
   pub unused : UnusedSaysNothing
   pub gates : GatesAreOpen
   pub changes : ChangesKeep
@@ -81,21 +80,21 @@ module _ (laws : Laws) (old : View) (kept : List (Option Dictionary)) (of_null :
     admits-so : detail_at old.trail so.map i ≡ Some entry.detail
     admits-so = ap (detail_of old.trail) field-here ∙ entry.admits
 
-    narrow : IsNarrow entry.detail
-    narrow = h.tree.narrow entry.field entry.detail entry.admits
-
     kinds : entry.key.kind ≡ kind_of held
     kinds = kind-fast old.trail o so.map i (kind_of held) entry.key entry.detail key-here admits-so kind-here
 
-    module _ (word : ℕ) (form : IsFormOf (kind_of held) Tagged word) (holds : held_in (kind_of held) Tagged word ≡ held) where
+    module _ (rep : Rep) (has : HasRep old.trail o i rep) (word : ℕ) (form : IsFormOf (kind_of held) rep word) (holds : held_in (kind_of held) rep word ≡ held) where
+      rep-is : entry.detail.rep ≡ rep
+      rep-is = rep-at old.trail o so.map i rep entry.detail has so.is_map admits-so
+
       step-by : (new : View) (first : ℕ) → (store_in old.trail o).first ≡ Some first → new ≡ with_write old (Slot (first + i) word) → IsHeap new
           → Stepped old new None o (with_list (fast_object old.trail o so.map) (held_at (fast_props old.trail o so.map) i held))
       step-by new first is e heap =
           let x : Object = with_list (fast_object old.trail o so.map) (held_at (fast_props old.trail o so.map) i held) in
           subst (λ (v : View). Stepped old v None o x) (sym e)
           (written-step laws.maps laws.details laws.trees laws.unused old kept of_null h o so i first word entry.key entry.detail held (subst IsHeap e heap) place is key-here admits-so
-          (form-between entry.key.kind Tagged entry.detail.rep word not-wide narrow (subst (λ (k : Kind). IsFormOf k Tagged word) (sym kinds) form))
-          (held-between entry.key.kind entry.detail.rep Tagged word narrow not-wide ∙ subst (λ (k : Kind). held_in k Tagged word ≡ held) (sym kinds) holds))
+          (subst (λ (r : Rep). IsFormOf entry.key.kind r word) (sym rep-is) (subst (λ (k : Kind). IsFormOf k rep word) (sym kinds) form))
+          (ap (λ (r : Rep). held_in entry.key.kind r word) rep-is ∙ subst (λ (k : Kind). held_in k rep word ≡ held) (sym kinds) holds))
 
       pub write-steps : (new : View) → IsSomeAnd (store_in old.trail o).first (λ first. new ≡ with_write old (Slot (first + i) word)) → IsHeap new
           → Stepped old new None o (with_list (fast_object old.trail o so.map) (held_at (fast_props old.trail o so.map) i held))

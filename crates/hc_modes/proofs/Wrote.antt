@@ -3,7 +3,7 @@ use Rattle.std.proofs.Common.{◌≡◌, ◌∙◌, ℕ, ◌+◌, ◌<◌, List,
 use Rattle.std.specs.Prelude.{IsSomeAnd}
 use Rattle.hc_value.specs.Prop.{kind_of}
 use Rattle.hc_value.specs.declared.field.Detail.{Detail}
-use Rattle.hc_value.specs.declared.field.Rep.TheVariants.{Tagged}
+use Rattle.hc_value.specs.declared.field.Rep.{Rep}
 use Rattle.hc_value.specs.declared.prop.Held.{Held}
 use Rattle.hc_heap.specs.Kept.{Adds, FormsAreKept}
 use Rattle.hc_heap.specs.Lawful.{IsFormOf}
@@ -13,12 +13,12 @@ use Rattle.hc_heap.specs.States.{View, IsHeap, with_write}
 use Rattle.hc_heap.specs.Writes.{Slot}
 use Rattle.hc_fields.specs.Fields.{raised}
 use Rattle.hc_tree.specs.Details.{WritesDetails}
-use Rattle.hc_modes.specs.Narrow.{IsNarrowTree}
+use Rattle.hc_tree.specs.Tree.{IsTree}
 use Rattle.hc_table.specs.Changes.{kind_at}
 use Rattle.hc_table.specs.Ranges.{IsHeldInRange}
 use Rattle.hc_table.specs.World.{World, props_at, with_written}
 use Rattle.hc_slots.specs.Meaning.{Dictionary, held_in}
-use Rattle.hc_modes.specs.Admitting.{FactsStay, IsAsked, IsStored, held_detail}
+use Rattle.hc_modes.specs.Admitting.{FactsStay, HasRep, IsAsked, IsStored, held_detail}
 use Rattle.hc_modes.specs.Cells.{CellsStay}
 use Rattle.hc_modes.specs.Changes.{Changed}
 use Rattle.hc_modes.specs.Details.{DetailsAre, DetailsFirst, WroteGets}
@@ -30,10 +30,10 @@ use Rattle.hc_modes.proofs.Stores.{store-details, store-facts}
 use Rattle.hc_modes.proofs.Touching.{changed-on}
 use Rattle.hc_modes.proofs.Writing.{Laws, slot-there, write-changed, write-sound, write-world}
 
-stored-by : (old new : View) (o i w : ℕ) (held : Held) → held_in (kind_of held) Tagged w ≡ held → ((x : ℕ) → IsFormOf (kind_of held) Tagged x → held_in (kind_of held) Tagged x ≡ held → x ≡ w)
-    → (first : Option ℕ) → (store_in old.trail o).first ≡ first → IsSomeAnd first (λ y. new ≡ with_write old (Slot (y + i) w)) → IsStored old new o i held
-stored-by old new o i w held holds alone (Some y) is e = record { word = w; first = y; is_first = is; view = e; holds = holds; alone = alone }
-stored-by old new o i w held holds alone None is e = absurd e
+stored-by : (old new : View) (o i w : ℕ) (held : Held) (rep : Rep) → held_in (kind_of held) rep w ≡ held → ((x : ℕ) → IsFormOf (kind_of held) rep x → held_in (kind_of held) rep x ≡ held → x ≡ w)
+    → (first : Option ℕ) → (store_in old.trail o).first ≡ first → IsSomeAnd first (λ y. new ≡ with_write old (Slot (y + i) w)) → IsStored old new o i held rep
+stored-by old new o i w held rep holds alone (Some y) is e = record { word = w; first = y; is_first = is; view = e; holds = holds; alone = alone }
+stored-by old new o i w held rep holds alone None is e = absurd e
 
 -- the property holds it now
 pub record IsWritten (v x : View) (kept : List (Option Dictionary)) (null : Option ℕ) (o i : ℕ) (held : Held) : Type 0 where
@@ -50,15 +50,15 @@ pub record IsWritten (v x : View) (kept : List (Option Dictionary)) (null : Opti
   pub facts : HonestAfter → KeptIsCarried → StoredIsGiven → StoringKeepsConstants → FactsStay v.shape v.trail x.trail
 
 module _ (laws : Laws) (v w : View) (kept : List (Option Dictionary)) (null : Option ℕ) (h : IsObjects v kept null) (o : ℕ) (there : o < length kept) (fast : kept_of kept o ≡ None) (i : ℕ) (held : Held)
-    (kind : kind_at (props_at (world v.trail kept) o) i ≡ Some (kind_of held)) (it : IsAsked v w o i held) (tree : IsNarrowTree w.trail) (heap : IsHeap w) where
+    (kind : kind_at (props_at (world v.trail kept) o) i ≡ Some (kind_of held)) (it : IsAsked v w o i held) (tree : IsTree w.trail) (heap : IsHeap w) where
   abbrev asks : Detail
   asks = held_detail v.trail held it.constness
 
   abbrev then : View
   then = record v { trail = raised v.trail it.admitted.field (held_detail v.trail held it.constness) }
 
-  then-tree : IsNarrowTree (raised v.trail it.admitted.field (held_detail v.trail held it.constness))
-  then-tree = subst (λ (x : View). IsNarrowTree x.trail) it.admitted.view tree
+  then-tree : IsTree (raised v.trail it.admitted.field (held_detail v.trail held it.constness))
+  then-tree = subst (λ (x : View). IsTree x.trail) it.admitted.view tree
 
   then-heap : IsHeap (record v { trail = raised v.trail it.admitted.field (held_detail v.trail held it.constness) })
   then-heap = subst IsHeap it.admitted.view heap
@@ -78,21 +78,21 @@ module _ (laws : Laws) (v w : View) (kept : List (Option Dictionary)) (null : Op
   pub asked-slot : i < (store_in w.trail o).capacity
   asked-slot = slot-there laws w kept null asked-sound o there fast i held asked-kind
 
-  pub is-written : FormsAreKept → IsHeldInRange held → (x : View) (word : ℕ) → IsFormOf (kind_of held) Tagged word → held_in (kind_of held) Tagged word ≡ held
-      → ((y : ℕ) → IsFormOf (kind_of held) Tagged y → held_in (kind_of held) Tagged y ≡ held → y ≡ word) → IsSomeAnd (store_in w.trail o).first (λ first. x ≡ with_write w (Slot (first + i) word)) → IsHeap x → IsWritten v x kept null o i held
-  is-written forms range x word form holds alone stores after =
-      let st : IsStored w x o i held = stored-by w x o i word held holds alone (store_in w.trail o).first refl stores in
-      let changed : Changed v x o = changed-on v w x o asked-changed (admitted-owns v w o i held it.constness it.admitted) (write-changed laws w kept null asked-sound o there fast i held asked-kind word form holds x stores after) in
+  pub is-written : FormsAreKept → IsHeldInRange held → (x : View) (rep : Rep) → HasRep w.trail o i rep → (word : ℕ) → IsFormOf (kind_of held) rep word → held_in (kind_of held) rep word ≡ held
+      → ((y : ℕ) → IsFormOf (kind_of held) rep y → held_in (kind_of held) rep y ≡ held → y ≡ word) → IsSomeAnd (store_in w.trail o).first (λ first. x ≡ with_write w (Slot (first + i) word)) → IsHeap x → IsWritten v x kept null o i held
+  is-written forms range x rep has word form holds alone stores after =
+      let st : IsStored w x o i held rep = stored-by w x o i word held rep holds alone (store_in w.trail o).first refl stores in
+      let changed : Changed v x o = changed-on v w x o asked-changed (admitted-owns v w o i held it.constness it.admitted) (write-changed laws w kept null asked-sound o there fast i held asked-kind rep has word form holds x stores after) in
       record {
-        world_is = write-world laws w kept null asked-sound o there fast i held asked-kind word form holds x stores after ∙ ap (λ (y : World). with_written y o i held) asked-world;
+        world_is = write-world laws w kept null asked-sound o there fast i held asked-kind rep has word form holds x stores after ∙ ap (λ (y : World). with_written y o i held) asked-world;
         shape = ap (λ (y : View). y.shape) st.view ∙ ap (λ (y : View). y.shape) it.admitted.view;
         used = ap (λ (y : View). y.used) st.view ∙ ap (λ (y : View). y.used) it.admitted.view;
-        sound = write-sound laws w kept null asked-sound o there fast i held asked-kind word form holds range x (ap (λ (y : View). y.used.objects) st.view) stores after;
+        sound = write-sound laws w kept null asked-sound o there fast i held asked-kind rep has word form holds range x (ap (λ (y : View). y.used.objects) st.view) stores after;
         roots = λ q. ap (λ (y : View). root_in y.trail q) st.view ∙ admitted-roots v w o i held it.constness it.admitted q;
         bits = λ m. ap (λ (y : View). bits_in y.trail m) st.view ∙ admitted-bits v w o i held it.constness it.admitted m;
         maps = λ q. ap (λ (y : View). map_in y.trail q) st.view ∙ admitted-maps v w o i held it.constness it.admitted q;
         cells = cells-kept v x o changed;
-        details = store-details laws.maps laws.details forms v w x kept null h o there fast i held kind it st changed;
+        details = store-details laws.maps laws.details forms v w x kept null h o there fast i held kind it rep has st changed;
         order = record {
           before = w.trail;
           slot = st.first + i;
@@ -100,5 +100,5 @@ module _ (laws : Laws) (v w : View) (kept : List (Option Dictionary)) (null : Op
           details = subst (λ (y : View). Adds WritesDetails v.trail y.trail) (sym it.admitted.view) (raised-writes v.trail it.admitted.field asks);
           last = ap (λ (y : View). y.trail) st.view;
         };
-        facts = store-facts laws.maps laws.details forms v w x kept null h o there fast i held kind it st changed;
+        facts = store-facts laws.maps laws.details forms v w x kept null h o there fast i held kind it rep has st changed;
       }

@@ -1,6 +1,6 @@
 -- What the fields of objects' maps are asked to admit.
-use Rattle.std.specs.Prelude.{◌≡◌, ℕ, ◌+◌, IsTrue, Some}
-use Rattle.hc_value.specs.Field.{is_detail_within}
+use Rattle.std.specs.Prelude.{◌≡◌, ℕ, ◌+◌, IsTrue, IsSomeAnd, Some}
+use Rattle.hc_value.specs.Field.{in_place_of, is_detail_within, join_of, rep_of}
 use Rattle.hc_value.specs.declared.field.Constness.{Constness}
 use Rattle.hc_value.specs.declared.field.Constness.TheVariants.{Const}
 use Rattle.hc_value.specs.declared.field.Detail.{Detail}
@@ -8,6 +8,7 @@ use Rattle.hc_value.specs.declared.prop.Held.{Held}
 use Rattle.hc_value.specs.declared.prop.Held.TheVariants.{Datum, Pair}
 use Rattle.hc_value.specs.declared.prop.Prop.{Prop}
 use Rattle.hc_value.specs.Prop.{kind_of}
+use Rattle.hc_value.specs.declared.field.Rep.{Rep}
 use Rattle.hc_value.specs.declared.field.Rep.TheVariants.{Tagged}
 use Rattle.hc_layout.specs.declared.shape.Shape.{Shape}
 use Rattle.hc_heap.specs.Kept.{GoesOn}
@@ -20,14 +21,23 @@ pub use Rattle.hc_facts.specs.Constants.{ConstantsStay}
 pub use Rattle.hc_facts.specs.Honest.{IsHonest}
 use Rattle.hc_facts.specs.Honest.{detail_for}
 use Rattle.hc_fields.specs.Fields.{raised}
-use Rattle.hc_tree.specs.Tree.{IsNarrow, tagged_field}
-use Rattle.hc_slots.specs.Meaning.{IsConstnessFor, held_in, slot_word}
+use Rattle.hc_tree.specs.Tree.{tagged_field}
+use Rattle.hc_slots.specs.Meaning.{IsConstnessFor, MayHold, held_in, slot_word}
 use Rattle.hc_modes.specs.Changes.{IsGrown, key_of}
 
 -- what a field has to admit for what is held there: what the value asks; for a getter and a setter everything
 abbrev pub held_detail : Trail → Held → Constness → Detail
 held_detail t (Datum v) constness = detail_for t v constness
 held_detail t (Pair getter setter) constness = tagged_field
+
+-- the representation of what is held: that of a value, and for a getter and a setter the one of all that is admitted
+abbrev pub held_rep : Held → Rep
+held_rep (Datum v) = rep_of v
+held_rep (Pair getter setter) = Tagged
+
+-- what is to be held joins in place with what the field of an object's property admits
+abbrev pub FitsField : Trail → ℕ → ℕ → Held → Type 0
+FitsField t o i held = (m : ℕ) (d : Detail) → map_in t o ≡ Some m → detail_at t m i ≡ Some d → IsTrue (in_place_of d.rep (join_of d.rep (held_rep held)))
 
 -- the field of an object's property was asked to admit what is to be held there, and nothing else was stored
 pub record IsAdmitted (old new : View) (o i : ℕ) (held : Held) (constness : Constness) : Type 0 where
@@ -45,19 +55,24 @@ pub record IsAsked (old new : View) (o i : ℕ) (held : Held) : Type 0 where
   pub was : detail_in old.trail admitted.field ≡ Some detail
   pub right : IsConstnessFor detail.constness (held_in (kind_of held) detail.rep (slot_word old.trail o i)) held constness
 
--- what is to be held was stored in the slot of an object's property, and nothing else; no other word is of its form and holds that
-pub record IsStored (old new : View) (o i : ℕ) (held : Held) : Type 0 where
+-- the field of an object's property at a place has this representation
+abbrev pub HasRep : Trail → ℕ → ℕ → Rep → Type 0
+HasRep t o i rep = (m : ℕ) → map_in t o ≡ Some m → IsSomeAnd (detail_at t m i) (λ d. d.rep ≡ rep)
+
+-- what is to be held was stored in the slot of an object's property, as a field of this representation has it, and nothing else; no
+-- other word is of its form and holds that
+pub record IsStored (old new : View) (o i : ℕ) (held : Held) (rep : Rep) : Type 0 where
   pub word : ℕ
   pub first : ℕ
   pub is_first : (store_in old.trail o).first ≡ Some first
   pub view : new ≡ with_write old (Slot (first + i) word)
-  pub holds : held_in (kind_of held) Tagged word ≡ held
-  pub alone : (w : ℕ) → IsFormOf (kind_of held) Tagged w → held_in (kind_of held) Tagged w ≡ held → w ≡ word
+  pub holds : held_in (kind_of held) rep word ≡ held
+  pub alone : (w : ℕ) → IsFormOf (kind_of held) rep w → held_in (kind_of held) rep w ≡ held → w ≡ word
 
--- a map has the entries of another with n of them, and one more, with the key of a property, whose field isn't wide
+-- a map has the entries of another with n of them, and one more, with the key of a property, whose field may hold what that does
 pub record IsGrownBy (t : Trail) (m c n : ℕ) (p : Prop) : Type 0 where
   pub detail : Detail
-  pub narrow : IsNarrow detail
+  pub fits : MayHold detail.rep p.held
   pub grown : IsGrown t m c n (key_of p) detail
 
 -- the field of an object's n-th property, which it got, admits what that held

@@ -1,5 +1,5 @@
 -- What an operation on one object writes, and what it leaves.
-use Rattle.std.specs.Prelude.{◌≡◌, ◌≢◌, ℕ, ◌+◌, ◌<◌, ◌≤◌, false, Option, Some, List, length}
+use Rattle.std.specs.Prelude.{◌≡◌, ◌≢◌, ◌⊎◌, ℕ, ◌+◌, ◌<◌, ◌≤◌, false, IsTrue, Option, Some, List, length}
 use Rattle.hc_layout.specs.declared.words.GateWord.{GateWord}
 use Rattle.hc_layout.specs.declared.words.RootWord.{RootWord}
 use Rattle.hc_value.specs.Prop.{kind_of}
@@ -13,7 +13,8 @@ use Rattle.hc_heap.specs.Kept.{Adds}
 use Rattle.hc_heap.specs.States.{View, IsHeap}
 use Rattle.hc_descs.specs.Entries.{key_at, detail_at}
 use Rattle.hc_descs.specs.Copies.{HasEntriesOf}
-use Rattle.hc_modes.specs.Narrow.{IsNarrowTree}
+use Rattle.hc_tree.specs.Tree.{IsTree}
+use Rattle.hc_tree.specs.Details.{NoMap}
 pub use Rattle.hc_tree.specs.Walking.{OpensNoRoot}
 use Rattle.hc_table.specs.World.{Object}
 use Rattle.hc_slots.specs.Meaning.{Dictionary, object_shown}
@@ -27,24 +28,30 @@ pub record KeepsRoot (o : ℕ) (t : Trail) (p : ℕ) (r : RootWord) : Type 0 whe
   pub map : (m : ℕ) → (root_in t p).map ≡ Some m → r.map ≡ Some m
 
 -- a write of an operation on o: to o's own words but its cell, to slots that it owns or that are new, or one of the tree
--- that deprecates no map
-abbrev pub Touches : View → ℕ → Trail → Write → Type 0
-Touches old o t (ObjectMap p h) = p ≡ o
-Touches old o t (Store p w) = p ≡ o
-Touches old o t (Slot s w) = s < old.used.slots → Owns old.trail o s
-Touches old o t (Root p r) = KeepsRoot o t p r
-Touches old o t (Bits m b) = b.deprecated ≡ (bits_in t m).deprecated
-Touches old o t (ObjectCell p c) = ⊥
-Touches old o t (Validity c v) = ⊥
-Touches old o t _ = Unit {0}
+-- that deprecates no map but those that die
+abbrev pub TouchesBut : (ℕ → Type 0) → View → ℕ → Trail → Write → Type 0
+TouchesBut Dies old o t (ObjectMap p h) = p ≡ o
+TouchesBut Dies old o t (Store p w) = p ≡ o
+TouchesBut Dies old o t (Slot s w) = s < old.used.slots → Owns old.trail o s
+TouchesBut Dies old o t (Root p r) = KeepsRoot o t p r
+TouchesBut Dies old o t (Bits m b) = (b.deprecated ≡ (bits_in t m).deprecated) ⊎ (Dies m × IsTrue b.deprecated)
+TouchesBut Dies old o t (ObjectCell p c) = ⊥
+TouchesBut Dies old o t (Validity c v) = ⊥
+TouchesBut Dies old o t _ = Unit {0}
 
--- an operation on o came from one view to another
-pub record Changed (old new : View) (o : ℕ) : Type 0 where
-  pub writes : Adds (Touches old o) old.trail new.trail
+abbrev pub Touches : View → ℕ → Trail → Write → Type 0
+Touches = TouchesBut NoMap
+
+-- an operation on o came from one view to another, and some maps died
+pub record ChangedBut (Dies : ℕ → Type 0) (old new : View) (o : ℕ) : Type 0 where
+  pub writes : Adds (TouchesBut Dies old o) old.trail new.trail
   pub shape : new.shape ≡ old.shape
   pub slots : old.used.slots ≤ new.used.slots
-  pub tree : IsNarrowTree new.trail
+  pub tree : IsTree new.trail
   pub heap : IsHeap new
+
+abbrev pub Changed : View → View → ℕ → Type 0
+Changed old new o = ChangedBut NoMap old new o
 
 -- an object's words and slots are as they were
 pub record WordsStay (old new : Trail) (p : ℕ) : Type 0 where
@@ -86,8 +93,11 @@ pub record IsGrown (t : Trail) (m c n : ℕ) (key : Key) (detail : Detail) : Typ
   pub admits : detail_at t c n ≡ Some detail
 
 -- an operation on an object, which is kept so afterwards, made this of it
-pub record Stepped (old new : View) (item : Option Dictionary) (o : ℕ) (x : Object) : Type 0 where
-  pub changed : Changed old new o
+pub record SteppedBut (Dies : ℕ → Type 0) (old new : View) (item : Option Dictionary) (o : ℕ) (x : Object) : Type 0 where
+  pub changed : ChangedBut Dies old new o
   pub well : IsWell old new item o
   pub opens : OpensNoRoot old.trail new.trail
   pub value : object_shown new.trail o item (map_in new.trail o) ≡ x
+
+abbrev pub Stepped : View → View → Option Dictionary → ℕ → Object → Type 0
+Stepped old new item o x = SteppedBut NoMap old new item o x

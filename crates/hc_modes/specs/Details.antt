@@ -16,9 +16,15 @@ use Rattle.hc_heap.specs.Writes.{Slot, Trail}
 use Rattle.hc_descs.specs.Entries.{count_of, field_at}
 pub use Rattle.hc_tree.specs.Details.{DetailsAre}
 use Rattle.hc_tree.specs.Copying.{CopyGets}
-use Rattle.hc_tree.specs.Details.{WritesDetails}
-use Rattle.hc_tree.specs.Growth.{AskGets, marked, root_of}
-use Rattle.hc_tree.specs.Walking.{IsLiveEnd, WalkGets, with_root_for}
+use Rattle.hc_tree.specs.Details.{NoMap, WritesDetails}
+use Rattle.hc_tree.specs.Growth.{AskGets}
+use Rattle.hc_tree.specs.Walking.{IsLiveEnd}
+use Rattle.hc_update.specs.Renewing.{IsDoomed}
+use Rattle.hc_update.specs.Retargeting.{rooted}
+use Rattle.hc_update.specs.Updating.{IsStop, UpdateGets}
+use Rattle.hc_modes.specs.Filling.{GrowthKills}
+use Rattle.hc_modes.specs.Resettled.{marked_view}
+use Rattle.hc_modes.specs.Rest.{DeathsAre}
 use Rattle.hc_tree.specs.Needs.{HasSpace}
 use Rattle.hc_table.specs.Changes.{Did, Added, Wrote, Reconfigured as Changed, Linked}
 use Rattle.hc_table.specs.World.{props_at}
@@ -78,14 +84,18 @@ abbrev pub IfFast : Option Cause → (ℕ → Detail → Type 0) → ℕ → Det
 IfFast None Gets f d = Gets f d
 IfFast (Some cause) Gets f d = ⊥
 
--- from a map, made unstable, there is a walk from the root of another prototype, by its keys: up to the end of the live maps
--- the fields get the joins with what the map's admit, and past it new ones admit what those do
+-- from a map, made unstable, there is a walk from the root of another prototype, by its keys, along live maps as far as they go. Up to
+-- the first place where that isn't in place their fields get the joins with what the map's admit, and from there on new ones admit
+-- what is wanted: the joins as far as the live maps went, and past them what the map's do
 pub record IsRewalked (v : View) (null : Option ℕ) (m : ℕ) (proto : Option ℕ) (new : Trail) : Type 0 where
   pub root : ℕ
   pub end : ℕ
   pub count : ℕ
-  pub ended : IsLiveEnd (with_root_for (root_of (marked v.trail m) proto null) (marked v.trail m) proto root) root m (count_of v.trail m) end count
-  pub details : DetailsAre (WalkGets (marked v.trail m) end m count (count_of v.trail m) v.used.fields) v.trail new
+  pub stop : ℕ
+  pub ended : IsLiveEnd (rooted (marked_view v m) null proto root) root m (count_of v.trail m) end count
+  pub stopped : IsStop (rooted (marked_view v m) null proto root) end m count stop
+  pub details : DetailsAre (UpdateGets (rooted (marked_view v m) null proto root) end m count stop (count_of v.trail m) v.used.fields) v.trail new
+  pub deaths : DeathsAre (IsDoomed (rooted (marked_view v m) null proto root) end count stop) v.trail new
 
 -- an object with a shared map gets another prototype, and stays fast
 abbrev pub HasRewalked : View → Option ℕ → ℕ → Option ℕ → Trail → Type 0
@@ -102,6 +112,15 @@ pub record AddedDetails (v : View) (kept : List (Option Dictionary)) (o : ℕ) (
   pub grown : MayStay v kept o p → DetailsAre (AddedGets v o p) v.trail new
   pub nothing : (MayStay v kept o p → ⊥) → DetailsAre GetsNothing v.trail new
 
+-- maps that die where an object gets a property: where it stays fast, and is and was no prototype, the live child of its map, whose
+-- field doesn't join in place, and what is under that
+pub record AddKills (v : View) (kept : List (Option Dictionary)) (o : ℕ) (p : Prop) (x : ℕ) : Type 0 where
+  pub stays : MayStay v kept o p
+  pub shared : (root_in v.trail o).is_proto ≡ false
+  pub map : ℕ
+  pub has : map_in v.trail o ≡ Some map
+  pub kills : GrowthKills v.trail map p x
+
 -- another property of the same key is put in the place of one
 pub record ChangedGets (t : Trail) (kept : List (Option Dictionary)) (o i : ℕ) (p : Prop) (f : ℕ) (d : Detail) : Type 0 where
   pub other : slice_get (props_at (world t kept) o) i ≢ Some p
@@ -114,10 +133,11 @@ pub record StaysShared (v : View) (kept : List (Option Dictionary)) (null : Opti
   pub room : HasSpace v (link_need v.trail o proto null)
   pub shared : (root_in v.trail o).is_proto ≡ false
 
--- such an object comes to a map that is walked to, and another changes no detail
+-- such an object comes to a map that is walked to; another changes no detail, and no map dies
 pub record LinkedDetails (v : View) (kept : List (Option Dictionary)) (null : Option ℕ) (o : ℕ) (proto : Option ℕ) (new : Trail) : Type 0 where
   pub walked : StaysShared v kept null o proto → HasRewalked v null o proto new
   pub nothing : (StaysShared v kept null o proto → ⊥) → DetailsAre GetsNothing v.trail new
+  pub spares : (StaysShared v kept null o proto → ⊥) → DeathsAre NoMap v.trail new
 
 -- what became of details by an operation
 abbrev pub DetailsOf : Did → View → List (Option Dictionary) → Option ℕ → Trail → Type 0

@@ -1,7 +1,7 @@
 -- Which objects an operation makes slow, and why; what it needs of each region; and which objects are alike.
 use Rattle.std.specs.Prelude.{◌≡◌, ◌≢◌, ◌↔◌, ℕ, suc, Bool, true, false, ◌<◌, ◌==◌, ◌&&◌, not, nat_lt, Option, Some, None, option_map, IfSome, IsSomeAnd, if◌then◌else◌, List, length, map, slice_get, ⊤}
 use Rattle.hc_layout.specs.declared.capacity.TheConstants.{MAX_FAST}
-use Rattle.hc_value.specs.declared.key.Key.{Key}
+use Rattle.hc_value.specs.declared.field.Constness.TheVariants.{Const}
 use Rattle.hc_value.specs.declared.prop.Prop.{Prop}
 use Rattle.hc_value.specs.declared.reply.Cause.{Cause}
 use Rattle.hc_value.specs.declared.reply.Mode.{Mode}
@@ -12,12 +12,13 @@ use Rattle.hc_heap.specs.Readings.{map_in, root_in, store_in}
 use Rattle.hc_descs.specs.Entries.{count_of}
 use Rattle.hc_tree.specs.declared.need.Need.{Need}
 use Rattle.hc_tree.specs.Copying.{copy_need}
-use Rattle.hc_tree.specs.Growth.{child_need, live_child, root_need, root_of}
+use Rattle.hc_tree.specs.Growth.{child_need, fitting_child, root_need, root_of}
 use Rattle.hc_tree.specs.Needs.{HasSpace, no_need}
 pub use Rattle.hc_tree.specs.Needs.{IsNoLess, IsWithin, arrays_upto, both, walk_need}
 use Rattle.hc_tree.specs.Tree.{tagged_field}
 use Rattle.hc_table.specs.Changes.{Did, Nothing, Moved, Created, Added, Wrote, Reconfigured as Changed, Removed, Linked, Locked, Restricted}
 use Rattle.hc_table.specs.World.{object, props_at}
+use Rattle.hc_modes.specs.Admitting.{held_detail}
 use Rattle.hc_modes.specs.Changes.{key_of}
 use Rattle.hc_slots.specs.Slots.{slots_need}
 use Rattle.hc_slots.specs.Meaning.{Dictionary}
@@ -32,16 +33,16 @@ need_by (Some m) need = need m
 need_by None need = no_need
 
 -- the map of an object with n properties that gets one more: a private copy where it is or was a prototype, and else the live
--- child of its map, which is made where there is none
-abbrev pub grown_need : Bool → Trail → ℕ → ℕ → Key → Need
-grown_need is_proto t m n key =
-    if is_proto then copy_need false (Some (key, tagged_field)) n else child_need (live_child t m key) n
+-- child of its map, which is made where there is none whose field joins with what the property holds in place
+abbrev pub grown_need : Bool → Trail → ℕ → ℕ → Prop → Need
+grown_need is_proto t m n p =
+    if is_proto then copy_need false (Some (key_of p, tagged_field)) n else child_need (fitting_child t m (key_of p) (held_detail t p.held Const)) n
 
 -- an object gets a property more: a map, and the slots for it
 abbrev pub add_need : Trail → ℕ → Prop → Need
 add_need t o p =
     need_by (map_in t o)
-    (λ m. both (grown_need (root_in t o).is_proto t m (count_of t m) (key_of p)) (record no_need { slots = slots_need (count_of t m) (store_in t o).capacity }))
+    (λ m. both (grown_need (root_in t o).is_proto t m (count_of t m) p) (record no_need { slots = slots_need (count_of t m) (store_in t o).capacity }))
 
 -- an object becomes a prototype: a private map, where it is none yet
 abbrev pub proto_need : Trail → ℕ → Need

@@ -1,7 +1,6 @@
 -- How a fast object that is or was a prototype comes to another private map.
 use Rattle.std.specs.Prelude.{◌≡◌, ℕ, ◌<◌, Bool, true, false, IsTrue, Option, Some, None}
 use Rattle.hc_value.specs.Prop.{kind_of}
-use Rattle.hc_value.specs.declared.field.Rep.TheVariants.{Tagged}
 use Rattle.hc_value.specs.declared.field.Detail.{Detail}
 use Rattle.hc_value.specs.declared.key.Key.{Key}
 use Rattle.hc_value.specs.declared.prop.Prop.{Prop}
@@ -15,8 +14,7 @@ use Rattle.hc_tree.specs.declared.need.Need.{Need}
 use Rattle.hc_tree.specs.Copying.{IsPrivateCopy, More, copy_need}
 use Rattle.hc_tree.specs.Growth.{MakesMap, marked}
 use Rattle.hc_tree.specs.Needs.{no_need, with_need}
-use Rattle.hc_tree.specs.Tree.{IsNarrow, gate_with, tagged_field}
-use Rattle.hc_modes.specs.Narrow.{IsNarrowTree}
+use Rattle.hc_tree.specs.Tree.{IsTree, gate_with, tagged_field}
 use Rattle.hc_modes.specs.Admitting.{AsksLast}
 use Rattle.hc_modes.specs.Changes.{Changed, IsGrown, OpensNoRoot, key_of}
 use Rattle.hc_slots.specs.Slots.{SlotsStay, slots_need, AreHandedOut, Owns}
@@ -37,7 +35,7 @@ pub record IsCopied (fresh : Bool) (more : More) (proto : Option ℕ) (old new :
   pub after : Adds (MarksAt m) (marked old.trail m) new.trail
   pub used : new.used ≡ with_need (copy_need fresh more (count_of old.trail m)) old.used
   pub shape : new.shape ≡ old.shape
-  pub tree : IsNarrowTree new.trail
+  pub tree : IsTree new.trail
   pub heap : IsHeap new
 
 -- a private map has this prototype, and as many entries as another map, with the same keys and details
@@ -66,7 +64,6 @@ pub record IsGrownAlone (old new : View) (o m n : ℕ) (p : Prop) : Type 0 where
   pub changed : Changed old new o
   pub opens : OpensNoRoot old.trail new.trail
   pub detail : Detail
-  pub narrow : IsNarrow detail
   pub asks : AsksLast old.trail new.trail o n p
   pub grown : IsGrown new.trail m old.used.maps n (key_of p) detail
   pub private : IsTrue grown.gate.is_private
@@ -74,8 +71,8 @@ pub record IsGrownAlone (old new : View) (o m n : ℕ) (p : Prop) : Type 0 where
   pub roots : (q : ℕ) → root_in new.trail q ≡ root_in old.trail q
   pub room : n < (store_in new.trail o).capacity
   pub words : SlotsStay old.trail new.trail o n
-  pub form : IsFormOf (kind_of p.held) Tagged (slot_word new.trail o n)
-  pub holds : held_in (kind_of p.held) Tagged (slot_word new.trail o n) ≡ p.held
+  pub form : IsFormOf (kind_of p.held) detail.rep (slot_word new.trail o n)
+  pub holds : held_in (kind_of p.held) detail.rep (slot_word new.trail o n) ≡ p.held
   pub store : AreHandedOut new.used.slots (store_in new.trail o)
   pub owns : (s : ℕ) → Owns new.trail o s → s < old.used.slots → Owns old.trail o s
   pub needs : IsWithin (private_need (key_of p) n (store_in old.trail o).capacity) old.used new.used

@@ -14,14 +14,6 @@ use Rattle.hc_modes.specs.State.{ObjectsState}
 abbrev pub greatest_need : Need
 greatest_need = record { maps = MAX_FAST + 1; entries = arrays_upto MAX_FAST; fields = MAX_FAST; links = MAX_FAST; slots = MAX_FAST }
 
--- the most that an object needs to become a prototype: a private map with new fields
-abbrev pub most_of_named : Need
-most_of_named = record { maps = 1; entries = MAX_FAST; fields = MAX_FAST; links = 0; slots = 0 }
-
--- the most that an operation hands out, with the move before it
-abbrev pub most_of_operation : Need
-most_of_operation = both most_of_named greatest_need
-
 -- a need n times
 abbrev pub times : ℕ → Need → Need
 times zero need = no_need
@@ -31,9 +23,10 @@ times (suc n) need = both (times n need) need
 abbrev pub IsNearlyFull : View → Type 0
 IsNearlyFull v = HasSpace v greatest_need → ⊥
 
--- at most n operations lead from a state to a later one: no more items were handed out than they may need, and an object is
--- slow for want of room only where it was before, or some region is nearly full now
+-- at most n steps lead from a state to a later one, where a move is one, and an operation two, with the moves before it: no more
+-- items were handed out than they may need, and an object is slow for want of room only where it was before, or some region is
+-- nearly full now
 pub record IsSpent {P : Type 0} (n : ℕ) (a b : ObjectsState P) : Type 0 where
-  pub within : IsWithin (times n most_of_operation) a.heap.view.used b.heap.view.used
+  pub within : IsWithin (times n greatest_need) a.heap.view.used b.heap.view.used
   pub shape : b.heap.view.shape ≡ a.heap.view.shape
   pub space : (o : ℕ) → cause_in b.kept o ≡ Some Space → (cause_in a.kept o ≡ Some Space) ⊎ IsNearlyFull b.heap.view

@@ -8,7 +8,7 @@ ghost use Rattle.hc_descs.specs.Entries.{count_of};
 ghost use Rattle.hc_table.specs.Changes.{Moved};
 ghost use Rattle.hc_tree.specs.Copying.{CopyGets, copy_need};
 ghost use Rattle.hc_tree.specs.Needs.{HasSpace, with_need};
-ghost use Rattle.hc_modes.specs.Narrow.{IsNarrowTree};
+ghost use Rattle.hc_tree.specs.Tree.{IsTree};
 ghost use Rattle.hc_modes.specs.Becoming.{HasBecome, IsOwned, IsSettled, IsSpare, with_proto};
 ghost use Rattle.hc_modes.specs.Came.{HowBecame, Steps, IsStill, world_of};
 ghost use Rattle.hc_modes.specs.Changes.{KeptBut};
@@ -17,7 +17,6 @@ ghost use Rattle.hc_modes.specs.Meaning.{cause_in, kept_of};
 ghost use Rattle.hc_modes.specs.Modes.{Becomes, if_fast, proto_need};
 ghost use Rattle.hc_slots.specs.Fast.{HasMap};
 
-use crate::laws::narrow_trees_stay;
 use crate::objects::Objects;
 use hc_dict::Dictionary;
 use hc_facts::{constants_stay_on, honest_after, kept_is_carried, moved_is_carried};
@@ -26,21 +25,21 @@ use hc_heap::{
 };
 use hc_layout::RootWord;
 use hc_slots::fast::map_of;
-use hc_tree::{has_space, maps_are_kept, mark_unstable, of_copy, private_copy};
+use hc_tree::{has_space, maps_are_kept, mark_unstable, of_copy, private_copy, trees_stay};
 use hc_value::{Cause, Memory};
 
 // Has an object be a prototype from now on, whose map, where it has one, is its own.
 fn set_is_proto<P: Pace>(h: &mut Heap<P>, object: u32)
-    requires tree { IsNarrowTree h.old.view.trail }
+    requires tree { IsTree h.old.view.trail }
     requires handed { object < h.old.view.used.objects }
     requires own { IfSome (map_in h.old.view.trail object) (λ m. IsOwnMap h.old.view.trail m) }
     ensures view { h.new.view ≡ record h.old.view { trail = with_proto h.old.view.trail object } }
-    ensures tree { IsNarrowTree h.new.view.trail }
+    ensures tree { IsTree h.new.view.trail }
     ensures heap { IsHeap h.new.view }
     ensures goes { Goes h.old.desk h.new.desk }
     ensures went { P.went h.old.pace h.old.desk.trail h.new.desk.trail h.new.pace }
 {
-    narrow_trees_stay();
+    trees_stay();
     unused_says_nothing();
     h.stands();
     let root = h.object_root(object);
@@ -55,7 +54,7 @@ fn set_is_proto<P: Pace>(h: &mut Heap<P>, object: u32)
 
 // Gives a fast object that isn't a prototype a private map, for which there is room, and has it be one.
 fn take_own_map<P: Pace>(h: &mut Heap<P>, object: u32, map: u32)
-    requires tree { IsNarrowTree h.old.view.trail }
+    requires tree { IsTree h.old.view.trail }
     requires handed { object < h.old.view.used.objects }
     requires fast { HasMap h.old.view.trail object }
     requires has { map_in h.old.view.trail object ≡ Some map }
@@ -68,7 +67,7 @@ fn take_own_map<P: Pace>(h: &mut Heap<P>, object: u32, map: u32)
 {
     maps_are_kept();
     details_rise();
-    narrow_trees_stay();
+    trees_stay();
     unused_says_nothing();
     gates_are_open();
     forms_are_kept();

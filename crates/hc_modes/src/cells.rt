@@ -10,12 +10,11 @@ ghost use Rattle.hc_cells.specs.Watched.{AreWatched, AreWatchedBut, is_watched};
 ghost use Rattle.hc_modes.specs.Came.{IsStill, world_of};
 ghost use Rattle.hc_modes.specs.Validity.{OnlyCells, protos_of, slow_proto as proto_in};
 
-use crate::laws::narrow_trees_stay;
 use crate::objects::Objects;
 use hc_cells::Watched;
 use hc_facts::{honest_after, kept_is_carried};
 use hc_heap::{Pace, details_rise, unused_says_nothing};
-use hc_tree::maps_are_kept;
+use hc_tree::{maps_are_kept, trees_stay};
 
 impl<P: Pace> Objects<P> {
     /// The prototype of a slow object; none for a fast one.
@@ -55,7 +54,7 @@ impl<P: Pace> Objects<P> {
     {
         maps_are_kept();
         details_rise();
-        narrow_trees_stay();
+        trees_stay();
         unused_says_nothing();
         honest_after();
         kept_is_carried();
@@ -82,7 +81,7 @@ impl<P: Pace> Objects<P> {
     {
         maps_are_kept();
         details_rise();
-        narrow_trees_stay();
+        trees_stay();
         unused_says_nothing();
         honest_after();
         kept_is_carried();

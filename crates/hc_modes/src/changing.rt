@@ -5,10 +5,11 @@ ghost use Rattle.hc_table.specs.Attributes.{IsProper};
 ghost use Rattle.hc_table.specs.Changes.{Reconfigured, Locked, Restricted, name_at};
 ghost use Rattle.hc_table.specs.World.{props_at};
 ghost use Rattle.hc_modes.specs.Rest.{Marks};
+ghost use Rattle.hc_modes.specs.Admitting.{FitsField};
 ghost use Rattle.hc_modes.specs.Changes.{key_of};
 ghost use Rattle.hc_modes.specs.Details.{ChangedGets, DetailsAre};
 ghost use Rattle.hc_modes.specs.Meaning.{kept_of};
-ghost use Rattle.hc_modes.specs.Came.{IsStill, Made, Moves, Steps, world_of};
+ghost use Rattle.hc_modes.specs.Came.{IsOther, IsStill, Made, Moves, Steps, world_of};
 
 use crate::objects::Objects;
 use hc_dict::Change;
@@ -27,7 +28,7 @@ impl<P: Pace> Objects<P> {
     }
 
     // Whether the property at a place has the key of another of its name.
-    fn has_key(&mut self, o: u32, i: u32, p: &Prop) -> bool
+    pub(crate) fn has_key(&mut self, o: u32, i: u32, p: &Prop) -> bool
         requires object { o < length (world_of self.old) }
         requires name { name_at (props_at (world_of self.old) o) i ≡ Some p.now.name }
         ensures same { IsTrue result ↔ (option_map key_of (slice_get (props_at (world_of self.old) o) i) ≡ Some (key_of p.now)) }
@@ -43,6 +44,7 @@ impl<P: Pace> Objects<P> {
         requires fast { kept_of self.old.kept o ≡ None }
         requires same { option_map key_of (slice_get (props_at (world_of self.old) o) i) ≡ Some (key_of p) }
         requires proper { IsProper p }
+        requires place { FitsField self.old.heap.view.trail o i p.held }
         ensures steps { Steps P.went self.old (Reconfigured o i p) self.new }
         ensures kept { self.new.kept ≡ self.old.kept }
         ensures used { self.new.heap.view.used ≡ self.old.heap.view.used }
@@ -54,7 +56,7 @@ impl<P: Pace> Objects<P> {
     }
 
     // Whether the property at a place is this one.
-    fn holds(&mut self, o: u32, i: u32, p: &Prop) -> bool
+    pub(crate) fn holds(&mut self, o: u32, i: u32, p: &Prop) -> bool
         requires object { o < length (world_of self.old) }
         requires place { i < length (props_at (world_of self.old) o) }
         ensures same { IsTrue result ↔ (slice_get (props_at (world_of self.old) o) i ≡ Some p.now) }
@@ -69,6 +71,7 @@ impl<P: Pace> Objects<P> {
         requires name { name_at (props_at (world_of self.old) o) i ≡ Some p.name }
         requires proper { IsProper p }
         requires other { slice_get (props_at (world_of self.old) o) i ≢ Some p }
+        requires place { option_map key_of (slice_get (props_at (world_of self.old) o) i) ≡ Some (key_of p) → FitsField self.old.heap.view.trail o i p.held }
         ensures did { OnOk result (Made P.went self.old (Reconfigured o i p) self.new) }
         ensures moved { OnErr result (Moves P.went self.old self.new) }
         ensures still { OnErr result (IsStill self.old self.new) }
@@ -87,11 +90,13 @@ impl<P: Pace> Objects<P> {
         Ok(())
     }
 
-    /// Puts a property of the same name in the place of another, and does nothing where they are equal.
+    /// Puts a property of the same name in the place of another, and does nothing where they are equal. Where the keys are the same the
+    /// field may hold what it does in place.
     pub fn reconfigure(&mut self, o: u32, i: u32, p: Prop) -> Result<(), Memory>
         requires object { o < length (world_of self.old) }
         requires name { name_at (props_at (world_of self.old) o) i ≡ Some p.name }
         requires proper { IsProper p }
+        requires place { IsOther (world_of self.old) o i p → FitsField self.old.heap.view.trail o i p.held }
         ensures did { OnOk result (Made P.went self.old (Reconfigured o i p) self.new) }
         ensures moved { OnErr result (Moves P.went self.old self.new) }
         ensures still { OnErr result (IsStill self.old self.new) }
@@ -103,7 +108,7 @@ impl<P: Pace> Objects<P> {
         self.put_other(o, i, p)
     }
 
-    /// Has an object get no further property. It is slow from now on.
+    // Has an object get no further property. It is slow from now on.
     pub fn lock(&mut self, o: u32) -> Result<(), Memory>
         requires object { o < length (world_of self.old) }
         ensures did { OnOk result (Made P.went self.old (Locked o) self.new) }
@@ -120,7 +125,7 @@ impl<P: Pace> Objects<P> {
         Ok(())
     }
 
-    /// Seals an object, or freezes it. It is slow from now on.
+    // Seals an object, or freezes it. It is slow from now on.
     pub fn restrict(&mut self, o: u32, frozen: bool) -> Result<(), Memory>
         requires object { o < length (world_of self.old) }
         ensures did { OnOk result (Made P.went self.old (Restricted o frozen) self.new) }

@@ -11,14 +11,13 @@ ghost use Rattle.hc_modes.specs.Came.{Came, IsStill, Moves, world_of};
 ghost use Rattle.hc_modes.specs.Creating.{IsBegun, IsEntered};
 ghost use Rattle.hc_modes.specs.Meaning.{cause_in};
 
-use crate::laws::narrow_trees_stay;
 use crate::objects::Objects;
 use hc_dict::{Dict, Dictionary};
 use hc_facts::{constants_stay_on, honest_after, kept_is_carried};
 use hc_heap::{Pace, details_rise, forms_are_kept, unused_says_nothing};
 use hc_layout::Region;
 use hc_table::{TableFault, changes_keep};
-use hc_tree::{maps_are_kept, root};
+use hc_tree::{maps_are_kept, root, trees_stay};
 use hc_value::{Cause, Memory};
 
 impl<P: Pace> Objects<P> {
@@ -56,7 +55,7 @@ impl<P: Pace> Objects<P> {
     {
         maps_are_kept();
         details_rise();
-        narrow_trees_stay();
+        trees_stay();
         unused_says_nothing();
         forms_are_kept();
         honest_after();
@@ -68,8 +67,8 @@ impl<P: Pace> Objects<P> {
         self.kept[o as usize] = None;
     }
 
-    /// Makes an object without properties. All memory is taken first; then the prototype becomes one, and the object is
-    /// fast where there is room for the root of its prototype.
+    // Makes an object without properties. All memory is taken first; then the prototype becomes one, and the object is
+    // fast where there is room for the root of its prototype.
     pub fn create(&mut self, proto: Option<u32>) -> Result<u32, TableFault>
         requires { IsThere (world_of self.old) proto }
         ensures number { IfOk result (λ o. o ≡ length (world_of self.old)) }

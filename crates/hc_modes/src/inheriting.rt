@@ -4,13 +4,13 @@ ghost use Rattle.hc_heap.specs.Readings.{root_in};
 ghost use Rattle.hc_table.specs.Changes.{IsThere, Linked, reaches};
 ghost use Rattle.hc_table.specs.World.{object};
 ghost use Rattle.hc_tree.specs.Needs.{HasSpace};
+ghost use Rattle.hc_facts.specs.Honest.{IsHonest};
 ghost use Rattle.hc_modes.specs.Came.{AreMoves, Came, HowBecame, IsMarked, IsStill, Moves, moves_to_link, world_of};
 ghost use Rattle.hc_modes.specs.Inheriting.{IsLinkedNow, IsNamedNow, IsSpareFor, IsSpareOf, NamesSlow, spared_named, spared_need};
 ghost use Rattle.hc_modes.specs.Meaning.{kept_of};
 ghost use Rattle.hc_modes.specs.Needs.{IsFew};
 ghost use Rattle.hc_modes.specs.Modes.{both, link_need};
 
-use crate::laws::narrow_trees_stay;
 use crate::objects::Objects;
 use hc_dict::{Change, Dictionary};
 use hc_facts::{constants_stay_on, honest_after, kept_is_carried};
@@ -18,6 +18,7 @@ use hc_heap::{Pace, details_rise, forms_are_kept, gates_are_open, unused_says_no
 use hc_slots::fast::map_of;
 use hc_tree::{
     NONE, Need, has_space, known_root, maps_are_kept, mark_unstable, of_copy, of_retarget, plus,
+    trees_stay,
 };
 use hc_value::{Cause, Memory};
 
@@ -112,7 +113,7 @@ impl<P: Pace> Objects<P> {
     {
         maps_are_kept();
         details_rise();
-        narrow_trees_stay();
+        trees_stay();
         unused_says_nothing();
         forms_are_kept();
         honest_after();
@@ -177,6 +178,7 @@ impl<P: Pace> Objects<P> {
         requires no_cycle { reaches (world_of self.old) proto o ≡ false }
         requires named { IfSome proto (λ p. IsTrue (root_in self.old.heap.view.trail p).is_proto) }
         requires space { HasSpace self.old.heap.view (link_need self.old.heap.view.trail o proto self.old.of_null) }
+        requires honest { IsHonest self.old.heap.view.trail }
         ensures linked { IsLinkedNow P.went self.old o proto self.new }
     {
         if self.is_proto(o) {
@@ -195,6 +197,7 @@ impl<P: Pace> Objects<P> {
         requires no_cycle { reaches (world_of self.old) proto o ≡ false }
         requires named { IfSome proto (λ p. IsTrue (root_in self.old.heap.view.trail p).is_proto) }
         requires spare { IsSpareFor (HasSpace self.old.heap.view (link_need self.old.heap.view.trail o proto self.old.of_null)) (object (world_of self.old) o) spare }
+        requires honest { IsHonest self.old.heap.view.trail }
         ensures linked { IsLinkedNow P.went self.old o proto self.new }
     {
         constants_stay_on();
@@ -231,6 +234,7 @@ impl<P: Pace> Objects<P> {
         requires fast { kept_of self.old.kept o ≡ None }
         requires there { IsThere (world_of self.old) proto }
         requires no_cycle { reaches (world_of self.old) proto o ≡ false }
+        requires honest { IsHonest self.old.heap.view.trail }
         ensures did { OnOk result (Came P.went self.old (Linked o proto) self.new) }
         ensures moved { OnErr result (Moves P.went self.old self.new) }
         ensures still { OnErr result (IsStill self.old self.new) }
@@ -244,11 +248,12 @@ impl<P: Pace> Objects<P> {
         Ok(())
     }
 
-    /// Gives an object another prototype, whose chain doesn't come to the object. The prototype becomes one first.
+    // Gives an object another prototype, whose chain doesn't come to the object. The prototype becomes one first.
     pub fn set_prototype(&mut self, o: u32, proto: Option<u32>) -> Result<(), Memory>
         requires object { o < length (world_of self.old) }
         requires there { IsThere (world_of self.old) proto }
         requires no_cycle { reaches (world_of self.old) proto o ≡ false }
+        requires honest { IsHonest self.old.heap.view.trail }
         ensures did { OnOk result (Came P.went self.old (Linked o proto) self.new) }
         ensures moved { OnErr result (Moves P.went self.old self.new) }
         ensures still { OnErr result (IsStill self.old self.new) }

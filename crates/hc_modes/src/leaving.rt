@@ -7,31 +7,30 @@ ghost use Rattle.hc_slots.specs.Meaning.{dictionary_object};
 ghost use Rattle.hc_table.specs.Changes.{Moved};
 ghost use Rattle.hc_table.specs.World.{object};
 ghost use Rattle.hc_tree.specs.Growth.{marked};
-ghost use Rattle.hc_modes.specs.Narrow.{IsNarrowTree};
+ghost use Rattle.hc_tree.specs.Tree.{IsTree};
 ghost use Rattle.hc_modes.specs.Rest.{Marks};
 ghost use Rattle.hc_modes.specs.Changes.{KeptBut};
 ghost use Rattle.hc_modes.specs.Details.{DetailsAre, GetsNothing};
 ghost use Rattle.hc_modes.specs.Meaning.{cause_in, kept_of};
 ghost use Rattle.hc_modes.specs.Came.{Steps, IsStill, world_of};
 
-use crate::laws::narrow_trees_stay;
 use crate::objects::Objects;
 use hc_dict::Dictionary;
 use hc_facts::{honest_after, kept_is_carried};
 use hc_heap::{Heap, Pace, details_rise, forms_are_kept, stable_is_kept, unused_says_nothing};
 use hc_slots::dictionary_of;
 use hc_slots::fast::map_of;
-use hc_tree::{maps_are_kept, mark_unstable};
+use hc_tree::{maps_are_kept, mark_unstable, trees_stay};
 use hc_value::{Cause, Memory};
 
 // Has an object leave its map.
 fn leave_map<P: Pace>(h: &mut Heap<P>, object: u32, map: u32)
-    requires tree { IsNarrowTree h.old.view.trail }
+    requires tree { IsTree h.old.view.trail }
     requires handed { object < h.old.view.used.objects }
     requires there { map < h.old.view.used.maps }
     requires has { map_in h.old.view.trail object ≡ Some map }
     ensures view { h.new.view ≡ record h.old.view { trail = ObjectMap object None ∷ marked h.old.view.trail map } }
-    ensures marked_tree { IsNarrowTree (marked h.old.view.trail map) }
+    ensures marked_tree { IsTree (marked h.old.view.trail map) }
     ensures marked_heap { IsHeap (record h.old.view { trail = marked h.old.view.trail map }) }
     ensures heap { IsHeap h.new.view }
     ensures goes { Goes h.old.desk h.new.desk }
@@ -71,7 +70,7 @@ impl<P: Pace> Objects<P> {
     {
         maps_are_kept();
         details_rise();
-        narrow_trees_stay();
+        trees_stay();
         unused_says_nothing();
         forms_are_kept();
         stable_is_kept();

@@ -5,12 +5,16 @@ mod admitting;
 mod becoming;
 mod cells;
 mod changing;
+mod coming;
 mod creates;
+mod fits;
 mod growing;
 mod inheriting;
 mod laws;
 mod leaving;
 mod looks;
+mod migrating;
+mod moving;
 mod objects;
 mod privates;
 mod properties;
@@ -23,7 +27,7 @@ mod slow;
 mod writes;
 
 pub use laws::{
-    chains_are_told, fields_stay_honest, operations_leave_cells, operations_spend_little,
-    prototypes_stay_calm, writes_go_on,
+    alike_objects_stay_live, chains_are_told, fields_stay_honest, operations_leave_cells,
+    operations_spend_little, prototypes_stay_calm, writes_go_on,
 };
 pub use objects::Objects;

@@ -12,17 +12,17 @@ ghost use Rattle.hc_descs.specs.Entries.{IsOpenMap, LacksName, count_of};
 ghost use Rattle.hc_table.specs.Attributes.{IsProper};
 ghost use Rattle.hc_table.specs.Changes.{Added, Linked, IsThere, reaches};
 ghost use Rattle.hc_table.specs.World.{object, place_of, props_at};
-ghost use Rattle.hc_tree.specs.Copying.{CopyGets, Extra, MayBeLast, copied_count, copy_need};
+ghost use Rattle.hc_tree.specs.Copying.{CopyGets, MayBeLast, copied_count, copy_need};
 ghost use Rattle.hc_tree.specs.Growth.{IsUnmoved, MayBePrototype};
 ghost use Rattle.hc_tree.specs.Needs.{HasSpace};
-ghost use Rattle.hc_tree.specs.Tree.{IsNarrow, IsProperKey, gate_with, tagged_field};
-ghost use Rattle.hc_modes.specs.Narrow.{IsNarrowTree};
-ghost use Rattle.hc_modes.specs.Rest.{Marks, Relinks};
+ghost use Rattle.hc_tree.specs.Tree.{IsProperKey, IsTree, gate_with, tagged_field};
+ghost use Rattle.hc_tree.specs.Details.{NoMap};
+ghost use Rattle.hc_modes.specs.Rest.{DeathsAre, MarksBut, Relinks};
 ghost use Rattle.hc_modes.specs.Needs.{IsFew};
 ghost use Rattle.hc_modes.specs.Came.{Steps, IsStill, world_of};
 ghost use Rattle.hc_modes.specs.Admitting.{held_detail};
 ghost use Rattle.hc_modes.specs.Changes.{key_of};
-ghost use Rattle.hc_modes.specs.Details.{AddedGets, DetailsAre, GetsNothing, GrownGets};
+ghost use Rattle.hc_modes.specs.Details.{AddKills, AddedGets, DetailsAre, GetsNothing, GrownGets};
 ghost use Rattle.hc_modes.specs.Meaning.{kept_of};
 ghost use Rattle.hc_modes.specs.Modes.{IsWithin, add_need, link_need};
 ghost use Rattle.hc_modes.specs.Privates.{IsCopied, IsGrownAlone, IsMovedToCopy, private_need};
@@ -30,7 +30,6 @@ ghost use Rattle.hc_slots.specs.Slots.{AreHandedOut};
 ghost use Rattle.hc_table.specs.Ranges.{IsHeldInRange};
 
 use crate::admitting::detail_for_held;
-use crate::laws::narrow_trees_stay;
 use crate::objects::Objects;
 use hc_facts::{honest_after, kept_is_carried, moved_is_carried, stored_is_given};
 use hc_heap::{
@@ -41,7 +40,7 @@ use hc_slots::{fill_next, held_word, slots_needed};
 use hc_table::changes_keep;
 use hc_tree::{
     Need, has_space, maps_are_kept, mark_unstable, of_copy, of_longer_copy, private_copy,
-    with_slots,
+    trees_stay, with_slots,
 };
 use hc_value::{Constness, Detail, Key, Prop};
 
@@ -58,7 +57,6 @@ fn entry_for<P: Pace>(h: &mut Heap<P>, p: Prop) -> (Key, Detail)
     ensures key { result.0 ≡ key_of p }
     ensures detail { result.1 ≡ held_detail h.old.view.trail p.held Const }
     ensures accessor { result.0.kind ≡ AccessorProp → result.1 ≡ tagged_field }
-    ensures narrow { IsNarrow result.1 }
     ensures form { IsClassInRange result.1.class }
     ensures there { IsClassThere h.old.view.shape h.old.view.trail result.1.class }
     ensures same { h.new ≡ record h.old { desk = h.new.desk } }
@@ -83,13 +81,12 @@ pub(crate) fn copy_map<P: Pace>(
     proto: Option<u32>,
     more: Option<(Key, Detail)>,
 ) -> u32
-    requires tree { IsNarrowTree h.old.view.trail }
+    requires tree { IsTree h.old.view.trail }
     requires open { IsOpenMap h.old.view.trail map }
     requires few { copied_count more (count_of h.old.view.trail map) ≤ MAX_FAST }
     requires proto { MayBePrototype h.old.view.used h.old.view.trail proto }
     requires alone { IsTrue fresh → more ≡ None }
     requires more { IfSome more (λ e. MayBeLast h.old.view.shape h.old.view.trail map e.0 e.1) }
-    requires narrow { (e : Extra) → more ≡ Some e → IsNarrow e.1 }
     requires space { HasSpace h.old.view (copy_need fresh more (count_of h.old.view.trail map)) }
     ensures number { result ≡ h.old.view.used.maps }
     ensures copied { IsCopied fresh more proto h.old.view h.new.view map }
@@ -108,7 +105,7 @@ pub(crate) fn copy_map<P: Pace>(
 
 // Has an object with a private map get a property more: it comes to a copy of its map that has one entry more.
 fn grow_to_copy<P: Pace>(h: &mut Heap<P>, object: u32, map: u32, n: u32, p: Prop)
-    requires tree { IsNarrowTree h.old.view.trail }
+    requires tree { IsTree h.old.view.trail }
     requires few { n < MAX_FAST }
     requires has { map_in h.old.view.trail object ≡ Some map }
     requires open { gate_in h.old.view.trail map ≡ Some (gate_with n true) }
@@ -128,13 +125,15 @@ fn grow_to_copy<P: Pace>(h: &mut Heap<P>, object: u32, map: u32, n: u32, p: Prop
 {
     maps_are_kept();
     details_rise();
-    narrow_trees_stay();
+    trees_stay();
     unused_says_nothing();
     forms_are_kept();
     gates_are_open();
     h.stands();
-    let word = held_word(p.held);
+    let held = p.held;
     let entry = entry_for(h, p);
+    let rep = entry.1.rep;
+    let word = held_word(held, rep);
     let proto = h.proto(map).unwrap();
     let copy = copy_map(h, map, false, proto, Some(entry));
     fill_next(h, object, n, word);
@@ -144,7 +143,7 @@ fn grow_to_copy<P: Pace>(h: &mut Heap<P>, object: u32, map: u32, n: u32, p: Prop
 // Has an object with a private map get a property more. The answer is whether there was room; where there was none,
 // nothing is stored.
 fn grow_alone<P: Pace>(h: &mut Heap<P>, object: u32, map: u32, n: u32, p: Prop) -> bool
-    requires tree { IsNarrowTree h.old.view.trail }
+    requires tree { IsTree h.old.view.trail }
     requires few { n < MAX_FAST }
     requires has { map_in h.old.view.trail object ≡ Some map }
     requires open { gate_in h.old.view.trail map ≡ Some (gate_with n true) }
@@ -174,7 +173,7 @@ fn grow_alone<P: Pace>(h: &mut Heap<P>, object: u32, map: u32, n: u32, p: Prop) 
 // Has an object with a private map get another prototype: it comes to a copy of its map that has it. The answer is
 // whether there was room; where there was none, nothing is stored.
 fn link_alone<P: Pace>(h: &mut Heap<P>, object: u32, map: u32, n: u32, proto: Option<u32>) -> bool
-    requires tree { IsNarrowTree h.old.view.trail }
+    requires tree { IsTree h.old.view.trail }
     requires has { map_in h.old.view.trail object ≡ Some map }
     requires open { gate_in h.old.view.trail map ≡ Some (gate_with n true) }
     requires holds { HoldsEntries h.old.view.trail object map (gate_with n true) }
@@ -190,7 +189,7 @@ fn link_alone<P: Pace>(h: &mut Heap<P>, object: u32, map: u32, n: u32, proto: Op
 {
     maps_are_kept();
     details_rise();
-    narrow_trees_stay();
+    trees_stay();
     unused_says_nothing();
     gates_are_open();
     h.stands();
@@ -220,12 +219,12 @@ impl<P: Pace> Objects<P> {
         ensures still { result ≡ false → IsStill self.old self.new }
         ensures kept { self.new.kept ≡ self.old.kept }
         ensures null { self.new.of_null ≡ self.old.of_null }
-        ensures marks { IsTrue result → Marks self.old.heap.view.trail self.new.heap.view.trail o }
+        ensures marks { IsTrue result → MarksBut (AddKills self.old.heap.view self.old.kept o p) self.old.heap.view.trail self.new.heap.view.trail o }
         ensures details { IsTrue result → DetailsAre (AddedGets self.old.heap.view o p) self.old.heap.view.trail self.new.heap.view.trail }
     {
         maps_are_kept();
         details_rise();
-        narrow_trees_stay();
+        trees_stay();
         unused_says_nothing();
         changes_keep();
         forms_are_kept();
@@ -257,6 +256,7 @@ impl<P: Pace> Objects<P> {
         ensures null { self.new.of_null ≡ self.old.of_null }
         ensures relinks { IsTrue result → Relinks self.old.heap.view.trail self.new.heap.view.trail o proto }
         ensures details { IsTrue result → DetailsAre GetsNothing self.old.heap.view.trail self.new.heap.view.trail }
+        ensures deaths { IsTrue result → DeathsAre NoMap self.old.heap.view.trail self.new.heap.view.trail }
     {
         maps_are_kept();
         details_rise();

@@ -9,9 +9,11 @@ ghost use Rattle.hc_table.specs.Ranges.{IsHeldInRange};
 ghost use Rattle.hc_table.specs.World.{object, props_at, place_of};
 ghost use Rattle.hc_tree.specs.Needs.{HasSpace};
 ghost use Rattle.hc_modes.specs.Rest.{Marks};
+ghost use Rattle.hc_modes.specs.Admitting.{FitsField};
 ghost use Rattle.hc_modes.specs.Changes.{KeptBut};
 ghost use Rattle.hc_modes.specs.Details.{DetailsAre, GetsNothing};
 ghost use Rattle.hc_modes.specs.Meaning.{cause_in, kept_of};
+ghost use Rattle.hc_modes.specs.State.{IsLive};
 ghost use Rattle.hc_modes.specs.Modes.{add_need};
 ghost use Rattle.hc_modes.specs.Came.{IsStill, Made, MayLeave, Moves, Steps, world_of};
 
@@ -40,6 +42,7 @@ impl<P: Pace> Objects<P> {
         requires few { length (props_at (world_of self.old) o) < MAX_FAST }
         requires extensible { (object (world_of self.old) o).extensible ≡ true }
         requires proper { IsProper p.now }
+        requires live { IsLive self.old.heap.view.trail o }
         ensures room { IsTrue result ↔ HasSpace self.old.heap.view (add_need self.old.heap.view.trail o p.now) }
         ensures added { IsTrue result → Made P.went self.old (Added o p.now) self.new }
         ensures still { result ≡ false → IsStill self.old self.new }
@@ -80,6 +83,7 @@ impl<P: Pace> Objects<P> {
         requires absent { place_of (props_at (world_of self.old) o) p.name ≡ None }
         requires extensible { (object (world_of self.old) o).extensible ≡ true }
         requires proper { IsProper p }
+        requires live { IsLive self.old.heap.view.trail o }
         ensures did { OnOk result (Made P.went self.old (Added o p) self.new) }
         ensures moved { OnErr result (Moves P.went self.old self.new) }
         ensures others { OnErr result (KeptBut o self.old.kept self.new.kept) }
@@ -94,12 +98,13 @@ impl<P: Pace> Objects<P> {
         self.leave_and_add(o, Cause::Space, &p)
     }
 
-    /// Gives an extensible object a new last property.
+    // Gives an extensible object a new last property.
     pub fn add_property(&mut self, o: u32, p: Prop) -> Result<(), Memory>
         requires object { o < length (world_of self.old) }
         requires absent { place_of (props_at (world_of self.old) o) p.name ≡ None }
         requires extensible { (object (world_of self.old) o).extensible ≡ true }
         requires proper { IsProper p }
+        requires live { IsLive self.old.heap.view.trail o }
         ensures did { OnOk result (Made P.went self.old (Added o p) self.new) }
         ensures moved { OnErr result (Moves P.went self.old self.new) }
         ensures others { OnErr result (KeptBut o self.old.kept self.new.kept) }
@@ -111,11 +116,12 @@ impl<P: Pace> Objects<P> {
         self.add_to_fast(o, p)
     }
 
-    /// Has the property at a place hold something else of its kind.
+    // Has the property at a place hold something else of its kind.
     pub fn write_property(&mut self, o: u32, i: u32, held: Held)
         requires object { o < length (world_of self.old) }
         requires kind { kind_at (props_at (world_of self.old) o) i ≡ Some (kind_of held) }
         requires range { IsHeldInRange held }
+        requires place { FitsField self.old.heap.view.trail o i held }
         ensures did { Made P.went self.old (Wrote o i held) self.new }
     {
         if self.is_slow(o) {

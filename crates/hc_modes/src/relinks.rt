@@ -2,23 +2,24 @@
 ghost use Rattle.std.specs.Prelude.{ℕ, ◌≡◌, ◌<◌, ◌≤◌, ◌*◌, ◌↔◌, true, false, IsTrue, None, Some, IfSome, length};
 ghost use Rattle.hc_layout.specs.declared.capacity.TheConstants.{MAX_FAST};
 ghost use Rattle.hc_heap.specs.Lawful.{HoldsEntries};
-ghost use Rattle.hc_heap.specs.Readings.{bits_in, gate_in, map_in, root_in};
+ghost use Rattle.hc_facts.specs.Honest.{IsHonest};
+ghost use Rattle.hc_heap.specs.Readings.{gate_in, map_in, root_in, store_in};
+ghost use Rattle.hc_slots.specs.Slots.{AreHandedOut};
 ghost use Rattle.hc_heap.specs.States.{Goes};
 ghost use Rattle.hc_tree.specs.Growth.{IsUnmoved, MayBePrototype, root_need, root_of};
 ghost use Rattle.hc_tree.specs.Needs.{HasSpace};
-ghost use Rattle.hc_tree.specs.Tree.{gate_with};
-ghost use Rattle.hc_modes.specs.Narrow.{IsNarrowTree};
+ghost use Rattle.hc_tree.specs.Tree.{IsTree, gate_with};
 ghost use Rattle.hc_table.specs.Changes.{IsThere, Linked, reaches};
 ghost use Rattle.hc_table.specs.World.{object};
 ghost use Rattle.hc_modes.specs.Came.{Steps, IsStill, world_of};
 ghost use Rattle.hc_modes.specs.Details.{HasRewalked, IsRewalked};
-ghost use Rattle.hc_modes.specs.Linking.{HasMapFor, IsRelinked, shared_need};
+ghost use Rattle.hc_modes.specs.Linking.{IsRelinked, shared_need};
 ghost use Rattle.hc_modes.specs.Meaning.{kept_of};
 ghost use Rattle.hc_modes.specs.Rest.{Relinks};
 ghost use Rattle.hc_modes.specs.Modes.{IsWithin, arrays_upto, both, link_need, walk_need};
 ghost use Rattle.hc_modes.specs.State.{AreRoots};
 
-use crate::laws::narrow_trees_stay;
+use crate::coming::come_to;
 use crate::objects::Objects;
 use hc_facts::{honest_after, kept_is_carried, moved_is_carried};
 use hc_heap::{
@@ -27,7 +28,8 @@ use hc_heap::{
 };
 use hc_slots::fast::map_of;
 use hc_table::changes_keep;
-use hc_tree::{has_space, known_root, map_for, maps_are_kept, mark_unstable, of_retarget};
+use hc_tree::{has_space, known_root, maps_are_kept, mark_unstable, of_retarget};
+use hc_update::map_for;
 
 // Has an object with a shared map get another prototype, for which there is room: it comes to the map with the same
 // keys.
@@ -39,13 +41,14 @@ fn relink<P: Pace>(
     proto: Option<u32>,
     of_null: &mut Option<u32>,
 )
-    requires tree { IsNarrowTree h.old.view.trail }
-    requires live { (m : ℕ) → (bits_in h.old.view.trail m).deprecated ≡ false }
+    requires tree { IsTree h.old.view.trail }
+    requires honest { IsHonest h.old.view.trail }
     requires roots { AreRoots h.old.view.trail of_null.old }
     requires has { map_in h.old.view.trail object ≡ Some map }
     requires open { gate_in h.old.view.trail map ≡ Some (gate_with n false) }
     requires holds { HoldsEntries h.old.view.trail object map (gate_with n false) }
     requires shared { (root_in h.old.view.trail object).is_proto ≡ false }
+    requires out { AreHandedOut h.old.view.used.slots (store_in h.old.view.trail object) }
     requires handed { object < h.old.view.used.objects }
     requires proto { MayBePrototype h.old.view.used h.old.view.trail proto }
     requires space { HasSpace h.old.view (shared_need h.old.view.trail n proto of_null.old) }
@@ -56,14 +59,12 @@ fn relink<P: Pace>(
 {
     maps_are_kept();
     details_rise();
-    narrow_trees_stay();
     set_is_kept();
-    gates_are_open();
     unused_says_nothing();
     h.stands();
     mark_unstable(h, map);
     let found = map_for(h, map, n, proto, of_null);
-    h.set_object_map(object, Some(found));
+    come_to(h, object, map, found, n);
 }
 
 // Has an object with a shared map get another prototype. The answer is whether there was room; where there was none,
@@ -76,13 +77,14 @@ fn link_object<P: Pace>(
     proto: Option<u32>,
     of_null: &mut Option<u32>,
 ) -> bool
-    requires tree { IsNarrowTree h.old.view.trail }
-    requires live { (m : ℕ) → (bits_in h.old.view.trail m).deprecated ≡ false }
+    requires tree { IsTree h.old.view.trail }
+    requires honest { IsHonest h.old.view.trail }
     requires roots { AreRoots h.old.view.trail of_null.old }
     requires has { map_in h.old.view.trail object ≡ Some map }
     requires open { gate_in h.old.view.trail map ≡ Some (gate_with n false) }
     requires holds { HoldsEntries h.old.view.trail object map (gate_with n false) }
     requires shared { (root_in h.old.view.trail object).is_proto ≡ false }
+    requires out { AreHandedOut h.old.view.used.slots (store_in h.old.view.trail object) }
     requires handed { object < h.old.view.used.objects }
     requires proto { MayBePrototype h.old.view.used h.old.view.trail proto }
     ensures room { IsTrue result ↔ HasSpace h.old.view (shared_need h.old.view.trail n proto of_null.old) }
@@ -113,6 +115,7 @@ impl<P: Pace> Objects<P> {
         requires no_cycle { reaches (world_of self.old) proto o ≡ false }
         requires shared { (root_in self.old.heap.view.trail o).is_proto ≡ false }
         requires named { IfSome proto (λ p. IsTrue (root_in self.old.heap.view.trail p).is_proto) }
+        requires honest { IsHonest self.old.heap.view.trail }
         ensures room { IsTrue result ↔ HasSpace self.old.heap.view (link_need self.old.heap.view.trail o proto self.old.of_null) }
         ensures linked { IsTrue result → Steps P.went self.old (Linked o proto) self.new }
         ensures needs { IsWithin (link_need self.old.heap.view.trail o proto self.old.of_null) self.old.heap.view.used self.new.heap.view.used }
@@ -124,7 +127,6 @@ impl<P: Pace> Objects<P> {
     {
         maps_are_kept();
         details_rise();
-        narrow_trees_stay();
         unused_says_nothing();
         gates_are_open();
         changes_keep();

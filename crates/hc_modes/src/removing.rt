@@ -8,14 +8,13 @@ ghost use Rattle.hc_heap.specs.Writes.{ObjectMap};
 ghost use Rattle.hc_table.specs.Changes.{Removed};
 ghost use Rattle.hc_table.specs.World.{props_at};
 ghost use Rattle.hc_tree.specs.Growth.{marked};
-ghost use Rattle.hc_modes.specs.Narrow.{IsNarrowTree};
+ghost use Rattle.hc_tree.specs.Tree.{IsTree};
 ghost use Rattle.hc_modes.specs.Rest.{Marks};
 ghost use Rattle.hc_modes.specs.Meaning.{kept_of};
 ghost use Rattle.hc_modes.specs.Modes.{if_deleted};
 ghost use Rattle.hc_modes.specs.Details.{DetailsAre, GetsNothing};
 ghost use Rattle.hc_modes.specs.Came.{IsStill, Made, Moves, Steps, world_of};
 
-use crate::laws::narrow_trees_stay;
 use crate::objects::Objects;
 use hc_dict::Change;
 use hc_facts::{constants_stay_on, honest_after, kept_is_carried, moved_is_carried};
@@ -24,12 +23,12 @@ use hc_heap::{
 };
 use hc_slots::fast::map_of;
 use hc_table::changes_keep;
-use hc_tree::{maps_are_kept, mark_unstable};
+use hc_tree::{maps_are_kept, mark_unstable, trees_stay};
 use hc_value::{Cause, Memory};
 
 // Has an object that is no prototype leave its map for another, which is filled by the object's slots.
 fn move_to_parent<P: Pace>(h: &mut Heap<P>, object: u32, map: u32, parent: u32)
-    requires tree { IsNarrowTree h.old.view.trail }
+    requires tree { IsTree h.old.view.trail }
     requires handed { object < h.old.view.used.objects }
     requires there { map < h.old.view.used.maps }
     requires has { map_in h.old.view.trail object ≡ Some map }
@@ -37,7 +36,7 @@ fn move_to_parent<P: Pace>(h: &mut Heap<P>, object: u32, map: u32, parent: u32)
     requires parent_there { parent < h.old.view.shape.maps }
     requires filled { IsSomeAnd (gate_in h.old.view.trail parent) (λ g. HoldsEntries h.old.view.trail object parent g) }
     ensures view { h.new.view ≡ record h.old.view { trail = ObjectMap object (Some parent) ∷ marked h.old.view.trail map } }
-    ensures marked_tree { IsNarrowTree (marked h.old.view.trail map) }
+    ensures marked_tree { IsTree (marked h.old.view.trail map) }
     ensures marked_heap { IsHeap (record h.old.view { trail = marked h.old.view.trail map }) }
     ensures heap { IsHeap h.new.view }
     ensures goes { Goes h.old.desk h.new.desk }
@@ -79,7 +78,7 @@ impl<P: Pace> Objects<P> {
     {
         maps_are_kept();
         details_rise();
-        narrow_trees_stay();
+        trees_stay();
         unused_says_nothing();
         gates_are_open();
         changes_keep();
@@ -93,8 +92,8 @@ impl<P: Pace> Objects<P> {
         move_to_parent(&mut self.heap, o, map, parent);
     }
 
-    /// Takes the property of an object at a place away. A fast object stays so where that is its last one, and the
-    /// object is no prototype.
+    // Takes the property of an object at a place away. A fast object stays so where that is its last one, and the
+    // object is no prototype.
     pub fn remove(&mut self, o: u32, i: u32) -> Result<(), Memory>
         requires object { o < length (world_of self.old) }
         requires place { i < length (props_at (world_of self.old) o) }

@@ -9,6 +9,7 @@ use Rattle.hc_facts.specs.Laws.{ConstantsStayOn}
 use Rattle.hc_heap.specs.Frames.{adds-none, adds-on, goes-further, goes-none, goes-on, goes-still, same-after}
 use Rattle.hc_heap.specs.Kept.{Adds, GoesOn}
 use Rattle.hc_heap.specs.Readings.{bits_in, map_in, object_cell_in, root_in}
+use Rattle.hc_descs.specs.Entries.{detail_at}
 use Rattle.hc_heap.specs.Writes.{Write, Trail, ObjectCell, Validity}
 use Rattle.hc_cells.specs.Cells.{Invalidates}
 use Rattle.hc_table.specs.World.{World, object, props_at}
@@ -17,6 +18,7 @@ use Rattle.hc_modes.specs.Admitting.{FactsStay}
 use Rattle.hc_modes.specs.Rest.{AreCalm}
 use Rattle.hc_modes.specs.State.{IsObjects, ObjectsState}
 use Rattle.hc_modes.specs.Validity.{OnlyCells, StaysPut, WritesCells}
+use Rattle.hc_objects.specs.State.{IsFaithful}
 
 by-cells : {T : Type 0} (reading : Trail → T) → ((t : Trail) (p : ℕ) (c : Option ℕ) → reading (ObjectCell p c ∷ t) ≡ reading t) → ((t : Trail) (c : ℕ) (v : CellWord) → reading (Validity c v ∷ t) ≡ reading t)
     → (t : Trail) (w : Write) → WritesCells t w → reading (w ∷ t) ≡ reading t
@@ -39,15 +41,25 @@ module _ {P : Type 0} (went : P → List Access → List Access → P → Type 0
   pub alone-map : (o : ℕ) → map_in b.heap.view.trail o ≡ map_in a.heap.view.trail o
   alone-map o = same (λ (t : Trail). map_in t o) (λ t p c. refl) (λ t c w. refl)
 
+  pub alone-bits : (m : ℕ) → bits_in b.heap.view.trail m ≡ bits_in a.heap.view.trail m
+  alone-bits m = same (λ (t : Trail). bits_in t m) (λ t p c. refl) (λ t c w. refl)
+
+  pub alone-detail : (m i : ℕ) → detail_at b.heap.view.trail m i ≡ detail_at a.heap.view.trail m i
+  alone-detail m i = same (λ (t : Trail). detail_at t m i) (λ t p c. refl) (λ t c w. refl)
+
   pub alone-world : world_of b ≡ world_of a
   alone-world = only.steps.world
 
   -- prototypes keep their maps, and these their bits
   pub alone-calm : AreCalm a.heap.view.trail → AreCalm b.heap.view.trail
   alone-calm calm o m has proto =
-      ap (λ (x : MapBits). x.unstable) (same (λ (t : Trail). bits_in t m) (λ t p c. refl) (λ t c w. refl))
+      ap (λ (x : MapBits). x.unstable) (alone-bits m)
       ∙ calm o m (sym (alone-map o) ∙ has)
       (subst IsTrue (same (λ (t : Trail). (root_in t o).is_proto) (λ t p c. refl) (λ t c w. refl)) proto)
+
+  -- what fields say is true, and prototypes are calm, as before
+  pub alone-faithful : IsFaithful a.heap.view.trail → IsFaithful b.heap.view.trail
+  alone-faithful h = record { honest = only.steps.keeps.honest h.honest; calm = alone-calm h.calm }
 
   -- what cells rest on stays
   pub alone-on : (s : ObjectsState P) (q : ℕ) → StaysPut s a q → StaysPut s b q

@@ -1,43 +1,90 @@
 -- The laws of operations after which the cells follow.
-use Rattle.std.proofs.Common.{◌≡◌, ℕ, ◌+◌, ◌≤◌, Bool, true, false, true≢false, List, None, refl, sym, ap, ◌∙◌, subst, inl, inr}
-use Rattle.std.specs.Prelude.{◌⊎◌, IsSomeAnd, Option, Some}
+use Rattle.std.proofs.Common.{◌≡◌, ℕ, ◌+◌, ◌≤◌, List, refl, sym, ap, ◌∙◌, subst, inl, inr}
+use Rattle.std.specs.Prelude.{◌⊎◌, Option, Some}
 use Rattle.hc_board.specs.Trail.{Access}
 use Rattle.hc_layout.specs.Shape.{items_of}
 use Rattle.hc_layout.specs.declared.shape.Region.{Region}
 use Rattle.hc_layout.specs.declared.shape.Region.TheVariants.{Maps, Entries, Fields, Links, Slots}
 use Rattle.hc_layout.specs.declared.shape.Shape.{Shape}
-use Rattle.hc_layout.specs.declared.words.CellWord.{CellWord}
 use Rattle.hc_value.specs.declared.reply.Cause.TheVariants.{Space}
 use Rattle.hc_facts.specs.Laws.{ConstantsStayOn}
-use Rattle.hc_heap.specs.Readings.{validity_in}
 use Rattle.hc_heap.specs.States.{HasRoom, View}
-use Rattle.hc_table.specs.Changes.{Did}
+use Rattle.hc_table.specs.Changes.{Did, Nothing, Moved}
 use Rattle.hc_slots.specs.Meaning.{Dictionary}
 use Rattle.hc_modes.specs.Admitting.{FactsStay}
-use Rattle.hc_modes.specs.Came.{Came as CameBare}
-use Rattle.hc_modes.specs.Laws.{came-shape as bare-shape, with_loads}
+use Rattle.hc_modes.specs.Came.{Came as CameBare, Moves as MovesBare}
+use Rattle.hc_modes.specs.Laws.{came-shape as bare-shape}
 use Rattle.hc_modes.specs.Meaning.{cause_in}
 use Rattle.hc_modes.specs.Modes.{IsWithin}
 use Rattle.hc_modes.specs.Rest.{AreCalm}
-use Rattle.hc_modes.specs.Spent.{greatest_need, IsNearlyFull, IsSpent, most_of_operation, times}
+use Rattle.hc_modes.specs.Spent.{greatest_need, IsNearlyFull, IsSpent, times}
 use Rattle.hc_modes.specs.State.{IsObjects, ObjectsState}
-use Rattle.hc_modes.specs.Validity.{CellFollows}
-use Rattle.hc_objects.specs.Came.{Came, Followed, IsStill, SaysStill}
-use Rattle.hc_objects.specs.Laws.{either-way}
+use Rattle.hc_objects.specs.Came.{Came, Followed, IsStill, MadeLive}
+use Rattle.hc_objects.specs.Laws.{followed-shape, live-once, over-came, over-once}
 use Rattle.hc_objects.proofs.Alone.{alone-calm, facts-on}
+use Rattle.hc_objects.proofs.Applied.{sound-still}
 
 module _ {P : Type 0} (went : P → List Access → List Access → P → Type 0) where
-  pub facts-kept : ConstantsStayOn → ((a b : ObjectsState P) (did : Did) → IsObjects a.heap.view a.kept a.of_null → CameBare went a did b → FactsStay a.heap.view.shape a.heap.view.trail b.heap.view.trail)
-      → (a b : ObjectsState P) (did : Did) → IsObjects a.heap.view a.kept a.of_null → Came went a did b → FactsStay a.heap.view.shape a.heap.view.trail b.heap.view.trail
-  facts-kept constants law a b did sound came = either-way went (FactsStay a.heap.view.shape a.heap.view.trail b.heap.view.trail) a b did
-      (λ still bare. law a b did sound bare)
-      (λ (f : Followed went a did b). facts-on constants a.heap.view.shape f.bare.heap.view.shape a.heap.view.trail f.bare.heap.view.trail b.heap.view.trail (bare-shape went a f.bare did f.came) (law a f.bare did sound f.came) f.only.steps.keeps) came
+  -- What fields say stays true, and the objects are sound afterwards
 
-  pub calm-kept : ((a b : ObjectsState P) (did : Did) → IsObjects a.heap.view a.kept a.of_null → IsObjects b.heap.view b.kept b.of_null → CameBare went a did b → AreCalm a.heap.view.trail → AreCalm b.heap.view.trail)
-      → (a b : ObjectsState P) (did : Did) → IsObjects a.heap.view a.kept a.of_null → IsObjects b.heap.view b.kept b.of_null → Came went a did b → AreCalm a.heap.view.trail → AreCalm b.heap.view.trail
-  calm-kept law a b did sound_a sound_b came calm = either-way went (AreCalm b.heap.view.trail) a b did
-      (λ still bare. law a b did sound_a sound_b bare calm)
-      (λ (f : Followed went a did b). alone-calm went f.bare b f.only (law a f.bare did sound_a f.sound f.came calm)) came
+  record HaveStayed (a b : ObjectsState P) : Type 0 where
+    pub facts : FactsStay a.heap.view.shape a.heap.view.trail b.heap.view.trail
+    pub shape : b.heap.view.shape ≡ a.heap.view.shape
+    pub sound : IsObjects b.heap.view b.kept b.of_null
+
+  module _ (constants : ConstantsStayOn) (law : (a b : ObjectsState P) (did : Did) → IsObjects a.heap.view a.kept a.of_null → CameBare went a did b → FactsStay a.heap.view.shape a.heap.view.trail b.heap.view.trail) where
+    stayed-on : (a b c : ObjectsState P) → (IsObjects a.heap.view a.kept a.of_null → HaveStayed a b) → (IsObjects b.heap.view b.kept b.of_null → HaveStayed b c) → IsObjects a.heap.view a.kept a.of_null → HaveStayed a c
+    stayed-on a b c x y sound =
+        let one = x sound in
+        let two = y one.sound in
+        record {
+          facts = facts-on constants a.heap.view.shape b.heap.view.shape a.heap.view.trail b.heap.view.trail c.heap.view.trail one.shape one.facts two.facts;
+          shape = two.shape ∙ one.shape;
+          sound = two.sound;
+        }
+
+    stayed-by : (a b : ObjectsState P) (did : Did) → Followed went a did b → IsObjects a.heap.view a.kept a.of_null → HaveStayed a b
+    stayed-by a b did f sound = record {
+      facts = facts-on constants a.heap.view.shape f.bare.heap.view.shape a.heap.view.trail f.bare.heap.view.trail b.heap.view.trail (bare-shape went a f.bare did f.came) (law a f.bare did sound f.came) f.only.steps.keeps;
+      shape = followed-shape went a b did f;
+      sound = f.stands.objects;
+    }
+
+    stayed-still : (a b : ObjectsState P) → IsStill a b → IsObjects a.heap.view a.kept a.of_null → HaveStayed a b
+    stayed-still a b still sound = record {
+      facts = law a b Nothing sound still;
+      shape = ap (λ (s : ObjectsState P). s.heap.view.shape) still.is;
+      sound = sound-still a b still sound;
+    }
+
+    pub facts-kept : (a b : ObjectsState P) (did : Did) → IsObjects a.heap.view a.kept a.of_null → Came went a did b → FactsStay a.heap.view.shape a.heap.view.trail b.heap.view.trail
+    facts-kept a b did sound came = (over-came went (λ n x y. IsObjects x.heap.view x.kept x.of_null → HaveStayed x y) stayed-still (λ m n. stayed-on) (λ m n x y le h. h) (λ x y. stayed-by x y Moved) stayed-by a b did came sound).facts
+
+  -- No map of a prototype becomes unstable
+
+  record HaveCalmed (a b : ObjectsState P) : Type 0 where
+    pub calm : AreCalm a.heap.view.trail → AreCalm b.heap.view.trail
+    pub sound : IsObjects b.heap.view b.kept b.of_null
+
+  module _ (law : (a b : ObjectsState P) (did : Did) → IsObjects a.heap.view a.kept a.of_null → IsObjects b.heap.view b.kept b.of_null → CameBare went a did b → AreCalm a.heap.view.trail → AreCalm b.heap.view.trail) where
+    calmed-on : (a b c : ObjectsState P) → (IsObjects a.heap.view a.kept a.of_null → HaveCalmed a b) → (IsObjects b.heap.view b.kept b.of_null → HaveCalmed b c) → IsObjects a.heap.view a.kept a.of_null → HaveCalmed a c
+    calmed-on a b c x y sound =
+        let one = x sound in
+        let two = y one.sound in
+        record { calm = λ calm. two.calm (one.calm calm); sound = two.sound }
+
+    calmed-by : (a b : ObjectsState P) (did : Did) → Followed went a did b → IsObjects a.heap.view a.kept a.of_null → HaveCalmed a b
+    calmed-by a b did f sound = record { calm = λ calm. alone-calm went f.bare b f.only (law a f.bare did sound f.sound f.came calm); sound = f.stands.objects }
+
+    calmed-still : (a b : ObjectsState P) → IsStill a b → IsObjects a.heap.view a.kept a.of_null → HaveCalmed a b
+    calmed-still a b still sound =
+        let after = sound-still a b still sound in
+        record { calm = λ calm. law a b Nothing sound after still calm; sound = after }
+
+    pub calm-kept : (a b : ObjectsState P) (did : Did) → IsObjects a.heap.view a.kept a.of_null → IsObjects b.heap.view b.kept b.of_null → Came went a did b → AreCalm a.heap.view.trail → AreCalm b.heap.view.trail
+    calm-kept a b did sound_a sound_b came calm = (over-came went (λ n x y. IsObjects x.heap.view x.kept x.of_null → HaveCalmed x y) calmed-still (λ m n. calmed-on) (λ m n x y le h. h) (λ x y. calmed-by x y Moved) calmed-by a b did came sound_a).calm calm
+
+  -- What is handed out
 
   -- the same counts, but that of cells, which is as it was in the end
   same-used : (a b : ObjectsState P) (did : Did) (f : Followed went a did b) → f.bare.heap.view.used.cells ≡ a.heap.view.used.cells → b.heap.view.used ≡ f.bare.heap.view.used
@@ -56,9 +103,9 @@ module _ {P : Type 0} (went : P → List Access → List Access → P → Type 0
     slots = room-same v w used shape Slots greatest_need.slots space.slots;
   })
 
-  spent-then : (a c b : ObjectsState P) → IsSpent 1 a c → b.heap.view.used ≡ c.heap.view.used → b.heap.view.shape ≡ c.heap.view.shape → b.kept ≡ c.kept → IsSpent 1 a b
-  spent-then a c b h used shape kept = record {
-    within = subst (λ (s : Shape). IsWithin (times 1 most_of_operation) a.heap.view.used s) (sym used) h.within;
+  spent-then : (n : ℕ) (a c b : ObjectsState P) → IsSpent n a c → b.heap.view.used ≡ c.heap.view.used → b.heap.view.shape ≡ c.heap.view.shape → b.kept ≡ c.kept → IsSpent n a b
+  spent-then n a c b h used shape kept = record {
+    within = subst (λ (s : Shape). IsWithin (times n greatest_need) a.heap.view.used s) (sym used) h.within;
     shape = shape ∙ h.shape;
     space = λ o is. by o (h.space o (sym (ap (λ (k : List (Option Dictionary)). cause_in k o) kept) ∙ is));
   }
@@ -67,37 +114,39 @@ module _ {P : Type 0} (went : P → List Access → List Access → P → Type 0
       by o (inl was) = inl was
       by o (inr full) = inr (full-same c.heap.view b.heap.view used shape full)
 
-  pub spent-one : ((a b : ObjectsState P) (did : Did) → IsObjects a.heap.view a.kept a.of_null → CameBare went a did b → IsSpent 1 a b)
-      → (a b : ObjectsState P) (did : Did) → IsObjects a.heap.view a.kept a.of_null → Came went a did b → IsSpent 1 a b
-  spent-one law a b did sound came = either-way went (IsSpent 1 a b) a b did
-      (λ still bare. law a b did sound bare)
-      (λ (f : Followed went a did b). let it = law a f.bare did sound f.came in spent-then a f.bare b it (same-used a b did f it.within.cells) f.only.steps.shape f.only.kept) came
+  record HaveSpent (n : ℕ) (a b : ObjectsState P) : Type 0 where
+    pub spent : IsSpent n a b
+    pub sound : IsObjects b.heap.view b.kept b.of_null
 
--- Cells that are valid
+  module _ (one : (a b : ObjectsState P) (did : Did) → IsObjects a.heap.view a.kept a.of_null → CameBare went a did b → IsSpent 2 a b) (moves : (a b : ObjectsState P) → IsObjects a.heap.view a.kept a.of_null → MovesBare went a b → IsSpent 1 a b)
+      (none : (n : ℕ) (a : ObjectsState P) → IsSpent n a a) (onward : (m n : ℕ) (a b c : ObjectsState P) → IsSpent m a b → IsSpent n b c → IsSpent (m + n) a c) (more : (m n : ℕ) (a b : ObjectsState P) → m ≤ n → IsSpent m a b → IsSpent n a b) where
+    spent-still : (a b : ObjectsState P) → IsStill a b → IsObjects a.heap.view a.kept a.of_null → HaveSpent 0 a b
+    spent-still a b still sound = record {
+      spent = spent-then 0 a a b (none 0 a) (ap (λ (s : ObjectsState P). s.heap.view.used) still.is) (ap (λ (s : ObjectsState P). s.heap.view.shape) still.is) (ap (λ (s : ObjectsState P). s.kept) still.is);
+      sound = sound-still a b still sound;
+    }
 
-says-by : {P : Type 0} (a b : ObjectsState P) (was now : CellWord) → CellFollows a b was now → SaysStill a b was now
-says-by {P} a b was now h = record { object = h.object; valid = λ valid. by was.invalid refl valid; put = h.put }
-  where
-    by : (i : Bool) → was.invalid ≡ i → now.invalid ≡ false → was.invalid ≡ false
-    by false is valid = is
-    by true is valid = absurd (true≢false (sym (h.invalid.1 (inl is)) ∙ valid))
+    spent-on : (m n : ℕ) (a b c : ObjectsState P) → (IsObjects a.heap.view a.kept a.of_null → HaveSpent m a b) → (IsObjects b.heap.view b.kept b.of_null → HaveSpent n b c) → IsObjects a.heap.view a.kept a.of_null → HaveSpent (m + n) a c
+    spent-on m n a b c x y sound =
+        let first = x sound in
+        let second = y first.sound in
+        record { spent = onward m n a b c first.spent second.spent; sound = second.sound }
 
-says-some : {P : Type 0} (a b : ObjectsState P) (was : CellWord) (v : Option CellWord) → IsSomeAnd v (λ now. CellFollows a b was now) → IsSomeAnd v (λ now. SaysStill a b was now)
-says-some {P} a b was (Some now) h = says-by a b was now h
-says-some {P} a b was None h = absurd h
+    spent-more : (m n : ℕ) (a b : ObjectsState P) → m ≤ n → (IsObjects a.heap.view a.kept a.of_null → HaveSpent m a b) → IsObjects a.heap.view a.kept a.of_null → HaveSpent n a b
+    spent-more m n a b le h sound = let it = h sound in record { spent = more m n a b le it.spent; sound = it.sound }
 
-says-same : {P : Type 0} (a b : ObjectsState P) (c : ℕ) (was : CellWord) → IsStill a b → validity_in a.heap.view.trail c ≡ Some was → IsSomeAnd (validity_in b.heap.view.trail c) (λ now. SaysStill a b was now)
-says-same {P} a b c was still e = subst (λ (s : ObjectsState P). IsSomeAnd (validity_in s.heap.view.trail c) (λ now. SaysStill a s was now)) (sym still.is)
-    (subst (λ (v : Option CellWord). IsSomeAnd v (λ now. SaysStill a (with_loads a b.heap.desk.loads) was now)) (sym e)
-    (record { object = refl; valid = λ valid. valid; put = λ valid q through. record { map = refl; proto = refl; props = λ slow. refl } }))
+    spent-by : (n : ℕ) (a b : ObjectsState P) (did : Did) (f : Followed went a did b) → IsSpent n a f.bare → HaveSpent n a b
+    spent-by n a b did f it = record { spent = spent-then n a f.bare b it (same-used a b did f it.within.cells) f.only.steps.shape f.only.kept; sound = f.stands.objects }
 
-pub says-still : {P : Type 0} (went : P → List Access → List Access → P → Type 0) (a b : ObjectsState P) (did : Did) (c : ℕ) (was : CellWord) → Came went a did b → validity_in a.heap.view.trail c ≡ Some was → IsSomeAnd (validity_in b.heap.view.trail c) (λ now. SaysStill a b was now)
-says-still {P} went a b did c was came e = either-way went (IsSomeAnd (validity_in b.heap.view.trail c) (λ now. SaysStill a b was now)) a b did
-    (λ still bare. says-same a b c was still e)
-    (λ (f : Followed went a did b). says-some a b was (validity_in b.heap.view.trail c) (f.cells.cells c was e)) came
+    pub spent-came : (a b : ObjectsState P) (did : Did) → IsObjects a.heap.view a.kept a.of_null → Came went a did b → IsSpent 4 a b
+    spent-came a b did sound came = (over-came went (λ n x y. IsObjects x.heap.view x.kept x.of_null → HaveSpent n x y) spent-still spent-on spent-more
+        (λ x y f s. spent-by 1 x y Moved f (moves x f.bare s f.came)) (λ x y d f s. spent-by 2 x y d f (one x f.bare d s f.came)) a b did came sound).spent
+
+    pub spent-live : (a b : ObjectsState P) (o : ℕ) → IsObjects a.heap.view a.kept a.of_null → MadeLive went a o b → IsSpent 1 a b
+    spent-live a b o sound made = (over-once went (λ n x y. IsObjects x.heap.view x.kept x.of_null → HaveSpent n x y) spent-still spent-on spent-more
+        (λ x y f s. spent-by 1 x y Moved f (moves x f.bare s f.came)) (λ x y d f s. spent-by 2 x y d f (one x f.bare d s f.came)) a b (live-once went a b o made) sound).spent
 
 -- no cell is handed out
 pub no-cell : {P : Type 0} (went : P → List Access → List Access → P → Type 0) (a b : ObjectsState P) (did : Did) → Came went a did b → b.heap.view.used.cells ≡ a.heap.view.used.cells
-no-cell {P} went a b did came = either-way went (b.heap.view.used.cells ≡ a.heap.view.used.cells) a b did
-    (λ still bare. ap (λ (s : ObjectsState P). s.heap.view.used.cells) still.is)
-    (λ (f : Followed went a did b). f.cells.used) came
+no-cell {P} went a b did came = over-came went (λ n x y. y.heap.view.used.cells ≡ x.heap.view.used.cells) (λ x y still. ap (λ (s : ObjectsState P). s.heap.view.used.cells) still.is) (λ m n x y z h k. k ∙ h) (λ m n x y le h. h)
+    (λ x y f. f.cells.used) (λ x y d f. f.cells.used) a b did came

@@ -6,5 +6,8 @@ pub mod Altered
 pub mod Moving
 pub mod Standing
 pub mod Restricting
-pub mod Applying
+pub mod Applied
 pub mod Lawful
+pub mod Saying
+pub mod MadeReady
+pub mod Made

@@ -13,24 +13,25 @@ use Rattle.hc_cells.specs.Cells.{AreCells, Invalidates, cell_after, with_cell}
 use Rattle.hc_cells.specs.Watched.{AreWatched}
 use Rattle.hc_slots.specs.Listed.{listed}
 use Rattle.hc_slots.specs.Meaning.{Dictionary}
+use Rattle.hc_modes.specs.Admitting.{IsHonest}
 use Rattle.hc_modes.specs.Came.{IsStill}
 use Rattle.hc_modes.specs.State.{IsObjects, ObjectsState}
 use Rattle.hc_modes.specs.Validity.{OnlyCells, protos_in, protos_of, slow_proto}
 use Rattle.hc_objects.specs.Following.{IsInvalidatedAt, WatchedBut}
-use Rattle.hc_objects.specs.State.{IsWatching}
+use Rattle.hc_objects.specs.State.{IsFaithful, IsWatching}
 use Rattle.hc_objects.proofs.Alone.{names-stay}
 
 -- loads leave all as it was
 pub watching-still : {P : Type 0} (a b : ObjectsState P) (protos : List (Option ℕ)) (marks : List Bool) → IsStill a b → IsWatching a protos marks → IsWatching b protos marks
-watching-still {P} a b protos marks still w = subst (λ (s : ObjectsState P). IsWatching s protos marks) (sym still.is) (record { cells = w.cells; told = w.told; watched = w.watched; size = w.size })
+watching-still {P} a b protos marks still w = subst (λ (s : ObjectsState P). IsWatching s protos marks) (sym still.is) (record { cells = w.cells; told = w.told; watched = w.watched; size = w.size; faithful = w.faithful })
 
 listed-none : (f : ℕ → Option ℕ) (n : ℕ) → ((k : ℕ) → f k ≡ None) → listed f n ≡ replicate n None
 listed-none f zero h = refl
 listed-none f (suc n) h = ap (λ (x : Option ℕ). x ∷ listed (λ k. f (suc k)) n) (h 0) ∙ ap (λ (xs : List (Option ℕ)). None ∷ xs) (listed-none (λ k. f (suc k)) n (λ k. h (suc k)))
 
 -- there is no object, and no cell
-pub watching-none : {P : Type 0} (s : ObjectsState P) (shape : Shape) (protos : List (Option ℕ)) (marks : List Bool) → s.heap.view ≡ record { shape = shape; trail = []; used = no_items } → s.kept ≡ [] → protos ≡ replicate shape.objects None → length marks ≡ shape.objects → IsWatching s protos marks
-watching-none {P} s shape protos marks view kept none size = record {
+pub watching-none : {P : Type 0} → IsHonest [] → (s : ObjectsState P) (shape : Shape) (protos : List (Option ℕ)) (marks : List Bool) → s.heap.view ≡ record { shape = shape; trail = []; used = no_items } → s.kept ≡ [] → protos ≡ replicate shape.objects None → length marks ≡ shape.objects → IsWatching s protos marks
+watching-none {P} honest s shape protos marks view kept none size = record {
   cells = subst (λ (v : View). AreCells v.trail v.used) (sym view) (record {
     objects = λ c cell e. let f : ⊥ = cc in absurd f;
     own = λ p c e. let f : ⊥ = cc in absurd f;
@@ -39,6 +40,7 @@ watching-none {P} s shape protos marks view kept none size = record {
   told = none ∙ sym (listed-none (slow_proto []) shape.objects (λ k. refl)) ∙ sym (ap (λ (v : View). protos_in v.shape.objects []) view) ∙ sym (ap (λ (k : List (Option Dictionary)). protos_in s.heap.view.shape.objects k) kept);
   watched = subst (λ (v : View). AreWatched v.trail protos marks) (sym view) (λ c p o e through. let f : ⊥ = cc in absurd f);
   size = size ∙ sym (ap (λ (v : View). v.shape.objects) view);
+  faithful = subst (λ (v : View). IsFaithful v.trail) (sym view) (record { honest = honest; calm = λ o m has proto. let f : ⊥ = cc in absurd f });
 }
 
 -- what is told of objects stays where cells alone were written

@@ -1,13 +1,21 @@
 -- The changes of one object, as what tables do.
-use Rattle.std.specs.Prelude.{◌≡◌, ℕ, ◌<◌, Bool, IsTrue, true, false, ⊤, Option, Some, None, length}
+use Rattle.std.specs.Prelude.{◌≡◌, ℕ, ◌<◌, Bool, IsTrue, true, false, ⊤, Option, Some, None, List, length}
+use Rattle.hc_board.specs.Trail.{Access}
+use Rattle.hc_heap.specs.Writes.{Trail}
 use Rattle.hc_value.specs.Prop.{kind_of}
 use Rattle.hc_value.specs.declared.prop.Prop.{Prop}
 use Rattle.hc_table.specs.Attributes.{IsProper}
 use Rattle.hc_table.specs.Changes.{Did, Added, Wrote, Reconfigured, Removed, Linked, Locked, Restricted, IsThere, after, kind_at, name_at, reaches}
 use Rattle.hc_table.specs.Ranges.{IsHeldInRange}
 use Rattle.hc_table.specs.World.{World, object, place_of, props_at}
+use Rattle.hc_modes.specs.Admitting.{FitsField}
+use Rattle.hc_modes.specs.Came.{IsMadeFit, IsMadeFitFor, IsMadeLive, IsOther}
+use Rattle.hc_modes.specs.State.{IsLive, ObjectsState}
+use Rattle.hc_objects.specs.Came.{IsStill, MadeFit, MadeFitFor, MadeNamed}
 use Rattle.hc_objects.specs.declared.change.Change.{Change}
 use Rattle.hc_objects.specs.declared.change.Change.TheVariants.{Add, Write, Put, Remove, Link, Lock, Restrict}
+use Rattle.hc_objects.specs.declared.change.Ready.{Ready}
+use Rattle.hc_objects.specs.declared.change.Ready.TheVariants.{Live, Fit, FitFor}
 
 -- what it does to an object
 abbrev pub did_of : ℕ → Change → Did
@@ -54,3 +62,40 @@ pub record Alters (w : World) (o : ℕ) (change : Change) (test : Bool) : Type 0
 pub record AltersSlow (w : World) (o : ℕ) (is_slow : Bool) (change : Change) (test : Bool) : Type 0 where
   pub slow : is_slow ≡ true → Alters w o change test
   pub fast : is_slow ≡ false → test ≡ false
+
+-- Objects made ready
+
+-- an object may be made ready so: what is to be stored is of the property's kind, or has its name
+abbrev pub MayReady : World → ℕ → Ready → Type 0
+MayReady w o Live = ⊤
+MayReady w o (Fit i held) = (kind_at (props_at w o) i ≡ Some (kind_of held)) × IsHeldInRange held
+MayReady w o (FitFor i p) = (name_at (props_at w o) i ≡ Some p.name) × IsProper p
+
+-- an object is live before its field is made to fit
+abbrev pub IsLiveFor : Trail → ℕ → Ready → Type 0
+IsLiveFor t o Live = ⊤
+IsLiveFor t o (Fit i held) = IsLive t o
+IsLiveFor t o (FitFor i p) = IsLive t o
+
+-- an object was made ready
+abbrev pub IsReadied : {P : Type 0} → (P → List Access → List Access → P → Type 0) → ObjectsState P → ℕ → Ready → ObjectsState P → Type 0
+IsReadied went a o Live b = IsMadeLive went a o b
+IsReadied went a o (Fit i held) b = IsMadeFit went a o i held b
+IsReadied went a o (FitFor i p) b = IsMadeFitFor went a o i p b
+
+-- a live object was made ready for a change, and the prototype that is named is live
+abbrev pub ReadiedFor : {P : Type 0} → (P → List Access → List Access → P → Type 0) → ObjectsState P → ℕ → Change → ObjectsState P → Type 0
+ReadiedFor went a o (Add p) b = IsStill a b
+ReadiedFor went a o (Write i held) b = MadeFit went a o i held b
+ReadiedFor went a o (Put i p) b = MadeFitFor went a o i p b
+ReadiedFor went a o (Remove i) b = IsStill a b
+ReadiedFor went a o (Link proto) b = MadeNamed went a proto b
+ReadiedFor went a o Lock b = IsStill a b
+ReadiedFor went a o (Restrict frozen) b = IsStill a b
+
+-- an object is ready for a change: live where it is to grow, and the field of a store holds in place what is to be stored
+abbrev pub IsReadyFor : World → Trail → ℕ → Change → Type 0
+IsReadyFor w t o (Add p) = IsLive t o
+IsReadyFor w t o (Write i held) = FitsField t o i held
+IsReadyFor w t o (Put i p) = IsOther w o i p → FitsField t o i p.held
+IsReadyFor w t o _ = ⊤

@@ -23,6 +23,17 @@ pub(crate) enum Change {
     Restrict(bool),
 }
 
+/// What an object is made ready for.
+#[derive(Clone, Copy)]
+pub(crate) enum Ready {
+    /// It is to be live.
+    Live,
+    /// The field of a place is to hold this.
+    Fit(u32, Held),
+    /// The field of a place is to hold what another property does.
+    FitFor(u32, Prop),
+}
+
 impl Change {
     /// The object that it names as prototype.
     pub(crate) fn named(&self) -> Option<u32>

@@ -1,24 +1,16 @@
 //! Cells follow a change of one object.
-ghost use Rattle.std.specs.Prelude.{◌≡◌, ◌<◌, ◌≤◌, length, OnOk, OnErr};
+ghost use Rattle.std.specs.Prelude.{◌≡◌, ◌<◌, ◌≤◌, length};
 ghost use Rattle.hc_cells.specs.Cells.{AreCells};
 ghost use Rattle.hc_cells.specs.Watched.{AreWatched};
 ghost use Rattle.hc_modes.specs.Validity.{protos_of};
 ghost use Rattle.hc_table.specs.Changes.{IsThere};
-ghost use Rattle.hc_objects.specs.Came.{Came, Moves, world_of};
-ghost use Rattle.hc_objects.specs.Changes.{MayChange, did_of};
+ghost use Rattle.hc_objects.specs.Came.{world_of};
 ghost use Rattle.hc_objects.specs.Following.{AreInvalidatedAt, IsInvalidatedAt, WatchedBut, told_also, told_of};
-ghost use Rattle.hc_objects.specs.State.{IsWatching};
+ghost use Rattle.hc_objects.specs.State.{IsFaithful, IsWatching};
 
-use crate::change::Change;
-use crate::objects::Objects;
-use crate::performing::{change_object, named_map, named_moved};
-use hc_cells::{Watched, chains_stay, marks_stay, ways_stay};
-use hc_facts::constants_stay_on;
+use hc_cells::Watched;
 use hc_heap::Pace;
-use hc_modes::{
-    Objects as Inside, chains_are_told, operations_leave_cells, operations_spend_little,
-};
-use hc_value::Memory;
+use hc_modes::Objects as Inside;
 
 // Tells the prototypes of an object, and of one that was named, where they are slow.
 fn tell<P: Pace>(inside: &Inside<P>, protos: &mut [Option<u32>], o: u32, named: Option<u32>)
@@ -45,10 +37,12 @@ fn invalidate_at<P: Pace>(
     requires size { length watched.old ≡ inside.old.heap.view.shape.objects }
     requires cells { AreCells inside.old.heap.view.trail inside.old.heap.view.used }
     requires watched { WatchedBut at inside.old.heap.view.trail protos.now watched.old }
+    requires faithful { IsFaithful inside.old.heap.view.trail }
     ensures invalidated { IsInvalidatedAt P.went inside.old at inside.new }
     ensures watched { AreWatched inside.new.heap.view.trail protos.now watched.new }
     ensures size { length watched.new ≡ length watched.old }
     ensures cells { AreCells inside.new.heap.view.trail inside.new.heap.view.used }
+    ensures faithful { IsFaithful inside.new.heap.view.trail }
 {
     inside.stands();
     let Some(o) = at else {
@@ -77,6 +71,7 @@ pub(crate) fn follow<P: Pace>(
     requires room { length protos.old ≡ inside.old.heap.view.shape.objects }
     requires cells { AreCells inside.old.heap.view.trail inside.old.heap.view.used }
     requires watched { WatchedBut here inside.old.heap.view.trail (protos_of inside.old) watched.old }
+    requires faithful { IsFaithful inside.old.heap.view.trail }
     ensures follows { AreInvalidatedAt P.went inside.old here there inside.new }
     ensures watching { IsWatching inside.new protos.new watched.new }
 {
@@ -84,39 +79,4 @@ pub(crate) fn follow<P: Pace>(
     tell(inside, protos, o, named);
     invalidate_at(inside, watched, protos, here);
     invalidate_at(inside, watched, protos, there);
-}
-
-impl<P: Pace> Objects<P> {
-    /// Changes an object, and what its cells say with it.
-    pub(crate) fn apply(&mut self, o: u32, change: Change) -> Result<(), Memory>
-        requires object { o < length (world_of self.old) }
-        requires may { MayChange (world_of self.old) o change }
-        ensures did { OnOk result (Came P.went self.old (did_of o change) self.new) }
-        ensures moved { OnErr result (Moves P.went self.old self.new) }
-    {
-        chains_are_told::<P>();
-        operations_leave_cells::<P>();
-        operations_spend_little::<P>();
-        constants_stay_on();
-        chains_stay();
-        ways_stay();
-        marks_stay();
-        self.inside.stands();
-        let named = change.named();
-        let map = named_map(&mut self.inside, named);
-        let marked = self.watched.may_concern(o);
-        let outcome = change_object(&mut self.inside, o, marked, change);
-        let there = named_moved(&mut self.inside, named, map);
-        self.inside.stands();
-        follow(
-            &mut self.inside,
-            &mut self.protos,
-            &mut self.watched,
-            o,
-            named,
-            outcome.moved,
-            there,
-        );
-        outcome.done
-    }
 }

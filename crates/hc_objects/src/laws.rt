@@ -1,5 +1,5 @@
 //! What follows of what was done, for proofs above. The functions do nothing: their contracts are laws.
-ghost use Rattle.std.specs.Prelude.{ℕ, ◌≡◌, ◌+◌, [], Some, IsSomeAnd};
+ghost use Rattle.std.specs.Prelude.{ℕ, ◌≡◌, ◌+◌, ◌≤◌, [], Some, IsSomeAnd};
 ghost use Rattle.hc_layout.specs.declared.words.CellWord.{CellWord};
 ghost use Rattle.hc_heap.specs.Readings.{map_in, validity_in};
 ghost use Rattle.hc_table.specs.Changes.{Did};
@@ -8,17 +8,21 @@ ghost use Rattle.hc_modes.specs.Rest.{AreCalm};
 ghost use Rattle.hc_modes.specs.Spent.{IsSpent};
 ghost use Rattle.hc_modes.specs.State.{ObjectsState, IsObjects};
 ghost use Rattle.hc_modes.specs.Validity.{OnlyCells};
-ghost use Rattle.hc_objects.specs.Came.{Came, SaysStill, world_of};
+ghost use Rattle.hc_objects.specs.Came.{Came, MadeLive, SaysStill, world_of};
+ghost use Rattle.hc_objects.specs.State.{IsStanding};
 
 use hc_facts::constants_stay_on;
 use hc_heap::Pace;
 
-/// An operation, and the moves that want of memory leaves, hand out no more than an operation may need, and leave an object
-/// slow for want of room only where some region is nearly full; so do several, one after the other. No cell is handed out.
+/// An operation with the moves before it hands out no more than four steps may need, and moves alone no more than three; they leave
+/// an object slow for want of room only where some region is nearly full. An object is made live in one step. So do several, one after
+/// the other.
 pub fn operations_spend_little<P: Pace>()
-    ensures one { (a b : ObjectsState P) (did : Did) → IsObjects a.heap.view a.kept a.of_null → Came P.went a did b → IsSpent 1 a b }
+    ensures one { (a b : ObjectsState P) (did : Did) → IsObjects a.heap.view a.kept a.of_null → Came P.went a did b → IsSpent 4 a b }
+    ensures live { (a b : ObjectsState P) (o : ℕ) → IsObjects a.heap.view a.kept a.of_null → MadeLive P.went a o b → IsSpent 1 a b }
     ensures none { (n : ℕ) (a : ObjectsState P) → IsSpent n a a }
     ensures onward { (m n : ℕ) (a b c : ObjectsState P) → IsSpent m a b → IsSpent n b c → IsSpent (m + n) a c }
+    ensures more { (m n : ℕ) (a b : ObjectsState P) → m ≤ n → IsSpent m a b → IsSpent n a b }
 {
     hc_modes::operations_spend_little::<P>();
 }
@@ -28,9 +32,17 @@ pub fn operations_hand_out_no_cell<P: Pace>()
     ensures law { (a b : ObjectsState P) (did : Did) → Came P.went a did b → b.heap.view.used.cells ≡ a.heap.view.used.cells }
 {}
 
-/// Where a cell was handed out and is valid after an operation, it was before, and nothing changed at any object of its chain.
+/// Where a cell was handed out and is valid after an operation, it was before, and nothing changed at any object of its chain, neither
+/// by the operation nor by the moves before it.
 pub fn valid_cells_say<P: Pace>()
-    ensures law { (a b : ObjectsState P) (did : Did) (c : ℕ) (was : CellWord) → Came P.went a did b → validity_in a.heap.view.trail c ≡ Some was → IsSomeAnd (validity_in b.heap.view.trail c) (λ now. SaysStill a b was now) }
+    ensures law { (a b : ObjectsState P) (did : Did) (c : ℕ) (was : CellWord) → IsStanding a → Came P.went a did b → validity_in a.heap.view.trail c ≡ Some was → IsSomeAnd (validity_in b.heap.view.trail c) (λ now. SaysStill a b was now) }
+{
+    hc_modes::chains_are_told::<P>();
+}
+
+/// The objects and the cells are sound after an operation where they were before.
+pub fn operations_stand<P: Pace>()
+    ensures law { (a b : ObjectsState P) (did : Did) → IsStanding a → Came P.went a did b → IsStanding b }
 {}
 
 /// What fields say is true of the values of objects where there is none yet; it stays true over an operation, and over the moves

@@ -3,6 +3,7 @@
 #![tactic(auto)]
 
 mod altering;
+mod applying;
 mod cells;
 mod change;
 mod creating;
@@ -13,10 +14,11 @@ mod objects;
 mod performing;
 mod readers;
 mod reads;
+mod readying;
 mod tables;
 
 pub use laws::{
     cells_stand_alone, fields_stay_honest, operations_hand_out_no_cell, operations_spend_little,
-    prototypes_stay_calm, valid_cells_say,
+    operations_stand, prototypes_stay_calm, valid_cells_say,
 };
 pub use objects::Objects;

@@ -1,20 +1,20 @@
 //! Objects, and which of them valid cells may concern.
-ghost use Rattle.std.specs.Prelude.{◌≡◌, ◌≢◌, ◌<◌, ◌↔◌, IsTrue, None, Some, [], length, replicate, IfOk, IsSome};
+ghost use Rattle.std.specs.Prelude.{◌≡◌, ◌≢◌, ◌<◌, ◌↔◌, IsTrue, None, Some, [], length, replicate, IfOk, IsSome, OnErr, OnOk};
 ghost use Rattle.hc_board.specs.States.{AllFit, TableId, counted};
 ghost use Rattle.hc_cells.specs.Cells.{AreCells};
-ghost use Rattle.hc_heap.specs.Readings.{map_in};
+ghost use Rattle.hc_heap.specs.Readings.{bits_in, map_in};
 ghost use Rattle.hc_heap.specs.States.{IsDesk, OnlyLoads, no_items};
 ghost use Rattle.hc_layout.specs.Shape.{IsShape, items_of};
 ghost use Rattle.hc_modes.specs.Looks.{AreFast};
 ghost use Rattle.hc_modes.specs.Meaning.{cause_in, kept_of};
 ghost use Rattle.hc_modes.specs.Modes.{AreAlike, HaveOneWord, mode_of};
-ghost use Rattle.hc_modes.specs.State.{IsObjects};
-ghost use Rattle.hc_objects.specs.Came.{IsStill, world_of};
+ghost use Rattle.hc_modes.specs.State.{IsLive, IsObjects, ObjectsState};
+ghost use Rattle.hc_objects.specs.Came.{IsStill, MadeLive, Moves, world_of};
 
 use hc_cells::Watched;
 use hc_heap::Pace;
 use hc_layout::{Region, Shape};
-use hc_modes::Objects as Inside;
+use hc_modes::{Objects as Inside, alike_objects_stay_live, fields_stay_honest};
 use hc_value::{Memory, Mode};
 use std::alloc::Global;
 use std::marker::Model;
@@ -56,6 +56,7 @@ impl<P: Pace> Objects<P> {
         ensures none { IfOk result (λ o. o.kept ≡ []) }
         ensures null { IfOk result (λ o. o.of_null ≡ None) }
     {
+        fields_stay_honest::<P>();
         let most = shape.objects;
         let inside = Inside::new(alloc, shape, pace)?;
         let protos = no_protos(alloc, most)?;
@@ -112,26 +113,54 @@ impl<P: Pace> Objects<P> {
         self.inside.map_of(o)
     }
 
-    /// How an object is kept: fast with so many properties, or slow for a cause.
+    /// Whether a map is deprecated.
+    pub fn is_dead(&mut self, map: u32) -> bool
+        ensures dead { result ≡ (bits_in self.old.heap.view.trail map).deprecated }
+        ensures still { IsStill self.old self.new }
+        ensures loads { OnlyLoads 1 self.old.heap.desk self.new.heap.desk }
+    {
+        self.inside.is_dead(map)
+    }
+
+    /// How an object is kept: fast with so many properties, or slow for a cause. Where it is deprecated it is migrated before.
     pub fn shape(&mut self, o: u32) -> Result<Mode, Memory>
         requires there { o < length (world_of self.old) }
-        ensures mode { IfOk result (λ mode. mode ≡ mode_of self.old.heap.view.trail self.old.kept o) }
-        ensures still { IsStill self.old self.new }
-        ensures loads { OnlyLoads 2 self.old.heap.desk self.new.heap.desk }
+        ensures made { OnOk result (MadeLive P.went self.old o self.new) }
+        ensures moved { OnErr result (Moves P.went self.old self.new) }
+        ensures mode { IfOk result (λ mode. mode ≡ mode_of self.new.heap.view.trail self.new.kept o) }
     {
+        self.migrate(o)?;
         self.inside.shape(o)
     }
 
-    /// Whether two objects are fast and have one map.
+    // Has two objects be live: the first, then the second, and then the first again, since the second's migration may have deprecated
+    // its map.
+    fn migrate_both(&mut self, a: u32, b: u32) -> Result<(), Memory>
+        requires a { a < length (world_of self.old) }
+        requires b { b < length (world_of self.old) }
+        ensures live_a { OnOk result (IsLive self.new.heap.view.trail a) }
+        ensures live_b { OnOk result (IsLive self.new.heap.view.trail b) }
+        ensures made { OnOk result ((once : ObjectsState P) × (twice : ObjectsState P) × MadeLive P.went self.old a once × MadeLive P.went once b twice × MadeLive P.went twice a self.new) }
+        ensures moved { Moves P.went self.old self.new }
+    {
+        alike_objects_stay_live::<P>();
+        self.migrate(a)?;
+        self.stands();
+        self.migrate(b)?;
+        self.migrate(a)
+    }
+
+    /// Whether two objects are fast and have one map. They are migrated before, the first one once more after the second.
     pub fn same(&mut self, a: u32, b: u32) -> Result<bool, Memory>
         requires a { a < length (world_of self.old) }
         requires b { b < length (world_of self.old) }
-        ensures itself { a ≡ b → IfOk result (λ same. IsTrue same ↔ (cause_in self.old.kept a ≡ None)) }
-        ensures others { a ≢ b → IfOk result (λ same. IsTrue same ↔ AreAlike self.old.heap.view.trail self.old.kept a b) }
-        ensures words { IfOk result (λ same. IsTrue same ↔ HaveOneWord self.old.heap.view.trail a b) }
-        ensures still { IsStill self.old self.new }
-        ensures loads { OnlyLoads 2 self.old.heap.desk self.new.heap.desk }
+        ensures itself { a ≡ b → IfOk result (λ same. IsTrue same ↔ (cause_in self.new.kept a ≡ None)) }
+        ensures others { a ≢ b → IfOk result (λ same. IsTrue same ↔ AreAlike self.new.heap.view.trail self.new.kept a b) }
+        ensures words { IfOk result (λ same. IsTrue same ↔ HaveOneWord self.new.heap.view.trail a b) }
+        ensures made { OnOk result ((once : ObjectsState P) × (twice : ObjectsState P) × MadeLive P.went self.old a once × MadeLive P.went once b twice × MadeLive P.went twice a self.new) }
+        ensures moved { Moves P.went self.old self.new }
     {
+        self.migrate_both(a, b)?;
         self.inside.same(a, b)
     }
 }

@@ -1,11 +1,12 @@
 //! A change of one object, and whether anything changed there that cells rest on.
 ghost use Rattle.std.specs.Prelude.{◌≡◌, ◌≢◌, ◌⊎◌, ℕ, ◌<◌, IsTrue, true, false, None, Some, IfSome, OnOk, OnErr, is_none, length};
 ghost use Rattle.hc_heap.specs.Readings.{map_in};
+ghost use Rattle.hc_modes.specs.Admitting.{IsHonest};
 ghost use Rattle.hc_modes.specs.Came.{Came, Moves};
 ghost use Rattle.hc_modes.specs.Validity.{StaysPut};
 ghost use Rattle.hc_table.specs.Changes.{IsThere};
 ghost use Rattle.hc_objects.specs.Came.{IsStill, world_of};
-ghost use Rattle.hc_objects.specs.Changes.{AltersSlow, MayChange, did_of};
+ghost use Rattle.hc_objects.specs.Changes.{AltersSlow, IsReadyFor, MayChange, did_of};
 
 use crate::altering::alters;
 use crate::change::Change;
@@ -24,6 +25,8 @@ pub(crate) struct Outcome {
 fn perform<P: Pace>(inside: &mut Inside<P>, o: u32, change: Change) -> Result<(), Memory>
     requires object { o < length (world_of inside.old) }
     requires may { MayChange (world_of inside.old) o change }
+    requires ready { IsReadyFor (world_of inside.old) inside.old.heap.view.trail o change }
+    requires honest { IsHonest inside.old.heap.view.trail }
     ensures did { OnOk result (Came P.went inside.old (did_of o change) inside.new) }
     ensures moved { OnErr result (Moves P.went inside.old inside.new) }
     ensures maps { OnErr result ((q : ℕ) → q ≢ o → map_in inside.new.heap.view.trail q ≡ map_in inside.old.heap.view.trail q) }
@@ -71,8 +74,13 @@ fn is_altered(altered: bool, done: &Result<(), Memory>) -> bool
     }
 }
 
-// The object, where it has another map now, or a change left it other.
-fn if_changed(o: u32, before: Option<u32>, now: Option<u32>, altered: bool) -> Option<u32>
+/// The object, where it has another map now, or a change left it other.
+pub(crate) fn if_changed(
+    o: u32,
+    before: Option<u32>,
+    now: Option<u32>,
+    altered: bool,
+) -> Option<u32>
     ensures changed { IfSome result (λ q. (q ≡ o) × ((now ≢ before) ⊎ (altered ≡ true))) }
     ensures map { result ≡ None → now ≡ before }
     ensures same { result ≡ None → altered ≡ false }
@@ -95,6 +103,8 @@ pub(crate) fn change_object<P: Pace>(
 ) -> Outcome
     requires object { o < length (world_of inside.old) }
     requires may { MayChange (world_of inside.old) o change }
+    requires ready { IsReadyFor (world_of inside.old) inside.old.heap.view.trail o change }
+    requires honest { IsHonest inside.old.heap.view.trail }
     ensures did { OnOk result.done (Came P.went inside.old (did_of o change) inside.new) }
     ensures want { OnErr result.done (Moves P.went inside.old inside.new) }
     ensures maps { OnErr result.done ((q : ℕ) → q ≢ o → map_in inside.new.heap.view.trail q ≡ map_in inside.old.heap.view.trail q) }

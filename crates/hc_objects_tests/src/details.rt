@@ -1,12 +1,13 @@
-//! What the fields of properties say after adds, stores, private copies and changed prototypes.
+//! What the fields of properties say after adds, stores, private copies and changed prototypes, and which maps die.
 use crate::steps::Given::{Int, Object, Truth};
-use crate::steps::Step::{Getter, Link, Lock, New, Set};
-use crate::steps::{BOARD, Given, Row, detail_of, field_of, take, walk};
+use crate::steps::Step::{Getter, Link, Lock, New, Set, Use};
+use crate::steps::{BOARD, Given, Row, dead_maps, detail_of, field_of, take, walk};
 use hc_heap::Free;
+use hc_layout::Region;
 use hc_objects::Objects;
 use hc_value::Class::{Any, Of};
 use hc_value::Constness::{Const, Mutable};
-use hc_value::Rep::{HeapObject, Smi, Tagged};
+use hc_value::Rep::{HeapObject, Smi, Tagged, Wide};
 use hc_value::{Class, Constness, Detail, Memory, Rep};
 use std::alloc::Global;
 use std::process::Abort;
@@ -51,12 +52,12 @@ const JOINS: [(Given, Given, Rep, Constness, Class); 26] = [
     (Int(1), Int(1), Smi, Const, Any),
     (Int(1), Int(2), Smi, Mutable, Any),
     (Int(LEAST), Int(GREATEST), Smi, Mutable, Any),
-    (Int(LEAST), Int(LEAST - 1), Tagged, Mutable, Any),
-    (Int(1), Int(BIG), Tagged, Mutable, Any),
+    (Int(LEAST), Int(LEAST - 1), Wide, Mutable, Any),
+    (Int(1), Int(BIG), Wide, Mutable, Any),
     (Int(1), Truth(true), Tagged, Mutable, Any),
     (Int(1), Object(2), Tagged, Mutable, Any),
-    (Int(BIG), Int(BIG), Tagged, Const, Any),
-    (Int(BIG), Int(1), Tagged, Mutable, Any),
+    (Int(BIG), Int(BIG), Wide, Const, Any),
+    (Int(BIG), Int(1), Wide, Mutable, Any),
     (Int(BIG), Truth(true), Tagged, Mutable, Any),
     (Int(BIG), Object(2), Tagged, Mutable, Any),
     (Truth(true), Truth(true), HeapObject, Const, Any),
@@ -115,6 +116,7 @@ fn an_add_that_finds_a_live_child_joins_its_value_as_a_constant(
         let mut objects = prepared(&rt, rt.alloc())?;
         take(&rt, &mut objects, Set(0, X, first))?;
         take(&rt, &mut objects, Set(1, X, second))?;
+        take(&rt, &mut objects, Use(0))?;
         let joined = Detail {
             rep,
             constness: Const,
@@ -125,6 +127,77 @@ fn an_add_that_finds_a_live_child_joins_its_value_as_a_constant(
             field_of(&mut objects, 0, 0) == field_of(&mut objects, 1, 0),
             "row {i}"
         );
+    }
+    Ok(())
+}
+
+// The name of a property beside z.
+const W: u32 = 3;
+
+// What all fields of a branch of three were given, with a fourth map beside the last; the place of the last map that is given
+// another value; what its field holds then; how many maps die and how many are made; and how many are made for the object that
+// has the fourth map, when it is used.
+const BRANCHES: [(Given, u32, Given, Rep, u32, u32, u32); 10] = [
+    (Int(1), X, Int(BIG), Wide, 4, 3, 1),
+    (Int(1), Y, Int(LEAST - 1), Wide, 3, 2, 1),
+    (Int(1), Z, Int(BIG), Wide, 1, 1, 0),
+    (Int(1), Y, Truth(true), Tagged, 0, 0, 0),
+    (Int(BIG), X, Truth(true), Tagged, 4, 3, 1),
+    (Int(BIG), Y, Truth(true), Tagged, 3, 2, 1),
+    (Int(BIG), Z, Object(3), Tagged, 1, 1, 0),
+    (Int(BIG), X, Int(1), Wide, 0, 0, 0),
+    (Truth(true), X, Int(BIG), Tagged, 0, 0, 0),
+    (Truth(true), Z, Object(3), HeapObject, 0, 0, 0),
+];
+
+// Objects 0 and 1 have x, y and z, object 2 has x, y and w, and object 3 has none.
+fn branched(rt: &impl Abort, alloc: Global, given: Given) -> Result<Objects<Free>, Memory> {
+    let mut objects = Objects::new(alloc, BOARD, Free)?;
+    for (o, last) in [(0, Z), (1, Z), (2, W)] {
+        take(rt, &mut objects, New(None))?;
+        take(rt, &mut objects, Set(o, X, given))?;
+        take(rt, &mut objects, Set(o, Y, given))?;
+        take(rt, &mut objects, Set(o, last, given))?;
+    }
+    take(rt, &mut objects, New(None))?;
+    Ok(objects)
+}
+
+// What a field is to hold, if there is one.
+fn rep_of(detail: Option<Detail>) -> Option<Rep> {
+    Some(detail?.rep)
+}
+
+#[test]
+fn a_field_that_is_outgrown_takes_its_maps_with_it(rt: HostRuntime) -> Result<(), Fail> {
+    for (i, row) in BRANCHES.iter().copied().enumerate() {
+        let (given, place, other, rep, dead, made, later) = row;
+        let mut objects = branched(&rt, rt.alloc(), given)?;
+        let before = objects.used(Region::Maps);
+        take(&rt, &mut objects, Set(0, place, other))?;
+        let maps = objects.used(Region::Maps);
+        assert!(rt; maps == before.saturating_add(made), "row {i}");
+        assert!(rt; dead_maps(&mut objects) == dead, "row {i}");
+        assert!(rt;
+            rep_of(detail_of(&mut objects, 0, place)) == Some(rep),
+            "row {i}"
+        );
+        check_moved(&rt, &mut objects, maps.saturating_add(later))?;
+    }
+    Ok(())
+}
+
+// Stops unless object 1 comes to the map of object 0, and object 2 to one that shares the first fields with it, so that there are
+// so many maps.
+fn check_moved(rt: &impl Abort, objects: &mut Objects<Free>, maps: u32) -> Result<(), Memory> {
+    take(rt, objects, Use(1))?;
+    take(rt, objects, Use(2))?;
+    assert!(rt; objects.used(Region::Maps) == maps);
+    for place in 0..3u32 {
+        assert!(rt; field_of(objects, 0, place) == field_of(objects, 1, place));
+    }
+    for place in 0..2u32 {
+        assert!(rt; field_of(objects, 0, place) == field_of(objects, 2, place));
     }
     Ok(())
 }

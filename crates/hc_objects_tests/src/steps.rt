@@ -4,7 +4,7 @@ ghost use Rattle.hc_value.specs.Word.{IsInRange};
 
 use hc_broker::Peek;
 use hc_heap::Free;
-use hc_layout::Shape;
+use hc_layout::{Region, Shape};
 use hc_objects::Objects;
 use hc_ops::{define, delete, lock, set, set_proto};
 use hc_table::{TableFault, Tables};
@@ -39,6 +39,7 @@ pub enum Step {
     Delete(u32, u32),
     Link(u32, u32),
     Lock(u32),
+    Use(u32),
 }
 
 /// A step, and what the property at a place of an object admits after it.
@@ -145,6 +146,12 @@ fn lock_it(rt: &impl Abort, objects: &mut Objects<Free>, o: u32) -> Result<(), M
     Ok(())
 }
 
+fn use_it(rt: &impl Abort, objects: &mut Objects<Free>, o: u32) -> Result<(), Memory> {
+    let there = o < objects.count();
+    assert!(rt; there);
+    objects.migrate(o)
+}
+
 /// Does a step, which is accepted.
 pub fn take(rt: &impl Abort, objects: &mut Objects<Free>, step: Step) -> Result<(), Memory> {
     match step {
@@ -154,6 +161,7 @@ pub fn take(rt: &impl Abort, objects: &mut Objects<Free>, step: Step) -> Result<
         Step::Delete(o, name) => delete_it(rt, objects, o, name),
         Step::Link(o, proto) => link(rt, objects, o, proto),
         Step::Lock(o) => lock_it(rt, objects, o),
+        Step::Use(o) => use_it(rt, objects, o),
     }
 }
 
@@ -187,4 +195,22 @@ pub fn detail_of(objects: &mut Objects<Free>, o: u32, place: u32) -> Option<Deta
     let field = field_of(objects, o, place)?;
     let mut peek = Peek::new(objects, BOARD);
     peek.detail(field)
+}
+
+// Whether a map is deprecated, as a job finds it.
+fn is_dead(objects: &mut Objects<Free>, map: u32) -> bool {
+    let mut peek = Peek::new(objects, BOARD);
+    match peek.bits(map) {
+        Some(bits) => bits.deprecated,
+        None => false,
+    }
+}
+
+/// How many maps are deprecated.
+pub fn dead_maps(objects: &mut Objects<Free>) -> u32 {
+    let mut count = 0u32;
+    for map in 0..objects.used(Region::Maps) {
+        count = count.saturating_add(u32::from(is_dead(objects, map)));
+    }
+    count
 }

@@ -2,7 +2,7 @@
 ghost use Rattle.std.specs.Prelude.{◌<◌};
 
 use crate::steps::Given::Int;
-use crate::steps::Step::{Delete, Getter, Link, Lock, New, Set};
+use crate::steps::Step::{Delete, Getter, Link, Lock, New, Set, Use};
 use crate::steps::{Step, take};
 use hc_heap::Free;
 use hc_layout::{Region, Shape};
@@ -32,15 +32,17 @@ const Z: u32 = 2;
 const PROTOS: [Option<u32>; 6] = [None, Some(0), Some(1), Some(2), Some(0), None];
 
 // A change, of an object that is put in, and whether it makes cells invalid where the object is fast, and where it is slow.
-const CHANGES: [(Step, bool, bool); 8] = [
+const CHANGES: [(Step, bool, bool); 10] = [
     (Set(0, Y, Int(1)), false, false),
     (Set(0, Y, Int(2)), false, true),
+    (Set(0, Y, Int(5_000_000_000)), true, true),
     (Set(0, Z, Int(1)), true, true),
     (Getter(0, Y, 7), true, true),
     (Delete(0, Y), true, true),
     (Delete(0, Z), false, false),
     (Link(0, 5), true, true),
     (Lock(0), true, false),
+    (Use(0), false, false),
 ];
 
 // For each object, the cells that are valid after something changed there. The cell of an object has its number.
@@ -61,6 +63,7 @@ fn of(change: Step, o: u32) -> Step {
         Delete(_, name) => Delete(o, name),
         Link(_, proto) => Link(o, proto),
         Lock(_) => Lock(o),
+        Use(_) => Use(o),
     }
 }
 

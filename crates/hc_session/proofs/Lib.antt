@@ -13,7 +13,11 @@ pub mod NamedWrites
 pub mod Obeys
 pub mod OnTables
 pub mod Pieces
+pub mod Readied
 pub mod Rendered
 pub mod Runs
+pub mod Sited
 pub mod Spends
 pub mod Takes
+pub mod Uses
+pub mod Accessed

@@ -1,12 +1,12 @@
 -- Commands keep that each name and each text in the objects has its number among the names, and so have their replies.
-use Rattle.std.proofs.Common.{ℕ, ◌≤◌, Bool, true, false, List, [], ◌∷◌, length, ap, arith, Option, Some, None}
-use Rattle.std.specs.Prelude.{◌==◌, if◌then◌else◌, IfSome}
+use Rattle.std.proofs.Common.{◌≡◌, ℕ, ◌<◌, ◌≤◌, Bool, true, false, ◌&&◌, List, [], ◌∷◌, length, refl, ap, arith, Option, Some, None}
+use Rattle.std.specs.Prelude.{◌==◌, if◌then◌else◌, IfSome, slice_get}
 use Rattle.hc_names.specs.declared.TheConstants.{MAX_NAMES}
 use Rattle.hc_value.specs.declared.prop.Held.{Held}
 use Rattle.hc_value.specs.declared.prop.Held.TheVariants.{Datum, Pair}
 use Rattle.hc_value.specs.declared.prop.Prop.{Prop}
 use Rattle.hc_value.specs.declared.reply.Reply.{Reply}
-use Rattle.hc_value.specs.declared.reply.Reply.TheVariants.{Flag, Shape as HowKept}
+use Rattle.hc_value.specs.declared.reply.Reply.TheVariants.{Flag, NoObject, NoSite, WrongSite, Shape as HowKept}
 use Rattle.hc_value.specs.declared.value.Value.{Value}
 use Rattle.hc_value.specs.declared.value.Value.TheVariants.{Undefined, Null, Bool as Boolean, Int, Text, Obj}
 use Rattle.hc_value.specs.declared.word.TheConstants.{TEXT_LIMIT}
@@ -19,8 +19,12 @@ use Rattle.hc_commands.specs.declared.command.Command.{Command}
 use Rattle.hc_commands.specs.declared.command.Command.TheVariants.{New, Get, Set, Define, Has, Own, Delete, Keys, Proto, SetProto, Extensible, Lock, Seal, Freeze, Shape, Same, Declare, Exec}
 use Rattle.hc_report.specs.Named.{IsNamedHeld, IsNamedReply}
 use Rattle.hc_session.specs.Named.{AreNamedProps, IsNamedWorld}
-use Rattle.hc_session.specs.Plain.{Answer, AnswersPlainly, PlainState, act_in}
-use Rattle.hc_session.specs.Tables.{HasNumbers, IsHowKept, IsReplyOf, act_of, act_there, all_there, did_in}
+use Rattle.hc_plan.specs.declared.case.Op.{Op}
+use Rattle.hc_plan.specs.declared.case.Op.TheVariants.{Load, Store}
+use Rattle.hc_plan.specs.declared.case.Site.{Site}
+use Rattle.hc_session.specs.Plain.{Answer, AnswersPlainly, PlainState, access_act, act_in, exec_act}
+use Rattle.hc_session.specs.Serving.{AreNamedSites}
+use Rattle.hc_session.specs.Tables.{HasNumbers, IsHowKept, IsReplyOf, act_of, act_there, all_there, did_in, is_among, names_among, says}
 use Rattle.hc_session.proofs.NamedActs.{IsNamedAct, either_act, defined_named, deleted_named, linked_named, locked_named}
 use Rattle.hc_session.proofs.NamedChanges.{after_named}
 use Rattle.hc_session.proofs.NamedReplies.{get_named, own_named, keys_named}
@@ -120,15 +124,38 @@ change_named : (count : ℕ) (act : Option Act) (w : World) → AreNamedActs cou
 change_named count (Some act) w of_act named = after_named count act.did w of_act.1 named
 change_named count None w of_act named = named
 
-in_named : (count : ℕ) (plain : PlainState) (command : Command) → IsNamedWorld count plain.tables.world → IsCommandBelow count command → AreNamedActs count (act_in plain command)
-in_named count plain (Declare op name) named of_command = (tt, tt)
-in_named count plain command named of_command = act_named count plain.tables command named of_command
+-- an access
+says_named : (count : ℕ) (reply : Reply) → IsNamedReply count reply → IsNamedAct count (says reply)
+says_named count reply named = (named, tt)
+
+access_named : (count : ℕ) (tables : Tables) (op : Op) (name o : ℕ) (value : Option Value) → IsNamedWorld count tables.world → name < count → IsGivenBelow count value → IsNamedAct count (access_act tables op name o value)
+access_named count tables Load name o None named of_name of_value = either_act count (is_among (length tables.world) o) _ _ (says_named count _ (get_named count tables.world o name named)) (says_named count NoObject tt)
+access_named count tables Store name o (Some v) named of_name of_value = either_act count (is_among (length tables.world) o && names_among (length tables.world) v) _ _ (set_named count tables.world o name v of_name of_value) (says_named count NoObject tt)
+access_named count tables Load name o (Some v) named of_name of_value = says_named count WrongSite tt
+access_named count tables Store name o None named of_name of_value = says_named count WrongSite tt
+
+exec_named : (count : ℕ) (tables : Tables) (o : ℕ) (value : Option Value) (site : Option Site) → IsNamedWorld count tables.world → IfSome site (λ x. x.name < count) → IsGivenBelow count value → IsNamedAct count (exec_act tables site o value)
+exec_named count tables o value None named of_site of_value = says_named count NoSite tt
+exec_named count tables o value (Some site) named of_site of_value = access_named count tables site.op site.name o value named of_site of_value
+
+site_named : (count : ℕ) (sites : List Site) (s : ℕ) (site : Option Site) → slice_get sites s ≡ site → AreNamedSites count sites → IfSome site (λ x. x.name < count)
+site_named count sites s None is named = tt
+site_named count sites s (Some site) is named = named s site is
+
+in_named : (count : ℕ) (plain : PlainState) (command : Command) → IsNamedWorld count plain.tables.world → AreNamedSites count plain.sites → IsCommandBelow count command → AreNamedActs count (act_in plain command)
+in_named count plain (Declare op name) named sites of_command = (tt, tt)
+in_named count plain (Exec s o value) named sites of_command = exec_named count plain.tables o value (slice_get plain.sites s) named (site_named count plain.sites s (slice_get plain.sites s) refl sites) of_command
+in_named count plain command named sites of_command = act_named count plain.tables command named of_command
 
 -- a command whose names and texts are among the names: its reply can be shown, and the objects keep such names and texts
-pub replies_show : (count : ℕ) (old : PlainState) (command : Command) (answer : Answer) (new : PlainState) → AnswersPlainly old command answer new → IsNamedWorld count old.tables.world → IsCommandBelow count command → IsNamedReply count answer.reply
-replies_show count old command answer new answers named of_command =
-    reply_shown count command (act_in old command) answer.reply (in_named count old command named of_command) answers.reply_is
+pub replies_show : (count : ℕ) (old : PlainState) (command : Command) (answer : Answer) (new : PlainState) → AnswersPlainly old command answer new → IsNamedWorld count old.tables.world → AreNamedSites count old.sites → IsCommandBelow count command → IsNamedReply count answer.reply
+replies_show count old command answer new answers named sites of_command =
+    reply_shown count command (act_in old command) answer.reply (in_named count old command named sites of_command) answers.reply_is
 
-pub tables_keep : (count : ℕ) (old : PlainState) (command : Command) (answer : Answer) (new : PlainState) → AnswersPlainly old command answer new → IsNamedWorld count old.tables.world → IsCommandBelow count command → IsNamedWorld count new.tables.world
-tables_keep count old command answer new answers named of_command =
-    rw (ap (λ (t : Tables). t.world) answers.tables_are) (change_named count (act_in old command) old.tables.world (in_named count old command named of_command) named)
+pub tables_keep : (count : ℕ) (old : PlainState) (command : Command) (answer : Answer) (new : PlainState) → AnswersPlainly old command answer new → IsNamedWorld count old.tables.world → AreNamedSites count old.sites → IsCommandBelow count command → IsNamedWorld count new.tables.world
+tables_keep count old command answer new answers named sites of_command =
+    rw (ap (λ (t : Tables). t.world) answers.tables_are) (change_named count (act_in old command) old.tables.world (in_named count old command named sites of_command) named)
+
+-- more names keep the names of sites
+pub sites_kept : (count more : ℕ) (sites : List Site) → count ≤ more → AreNamedSites count sites → AreNamedSites more sites
+sites_kept count more sites grows named n site is = omega (arith, grows, named n site is)

@@ -1,31 +1,51 @@
 -- What a command does to objects.
 use Rattle.std.proofs.Common.{◌≡◌, ℕ, Bool, true, false, List, [], ◌∷◌, ◌++◌, length, map, drop, refl, sym, ap, ◌∙◌, subst, arith, Ok, Err, Option, Some, None, append-nil}
 use Rattle.std.specs.Prelude.{IfOk, OnOk, OnErr, Result, if◌then◌else◌}
+use Rattle.std.specs.List.{AllByRecursion}
+use Rattle.std.proofs.lemmas.List.{drop_at, length-map}
+use Rattle.hc_board.specs.States.{counted}
 use Rattle.hc_board.specs.Trail.{Access}
 use Rattle.hc_value.specs.declared.reply.Reply.{Reply}
 use Rattle.hc_value.specs.declared.reply.Reply.TheVariants.{NoObject, Site as SiteReply}
+use Rattle.hc_value.specs.declared.value.Value.{Value}
 use Rattle.hc_value.specs.declared.memory.Memory.{Memory}
+use Rattle.hc_value.specs.declared.word.TheConstants.{TEXT_LIMIT}
+use Rattle.hc_access.specs.Accesses.{AskedCell}
+use Rattle.hc_facts.specs.Laws.{ConstantsStayOn}
+use Rattle.hc_heap.specs.Frames.{goes-further, goes-still}
+use Rattle.hc_heap.specs.Kept.{GoesOn}
+use Rattle.hc_heap.specs.Lawful.{Lawful}
+use Rattle.hc_heap.specs.Writes.{Trail}
+use Rattle.hc_layout.specs.declared.shape.Shape.{Shape as Shapes}
+use Rattle.hc_access.specs.Entries.{is_cached}
 use Rattle.hc_plan.specs.declared.case.Op.{Op}
-use Rattle.hc_plan.specs.declared.case.Site.{Site}
 use Rattle.hc_sites.specs.State.{new_site}
 use Rattle.hc_sites.specs.declared.state.SiteState.{SiteState}
-use Rattle.hc_table.specs.Changes.{Did, Nothing, Moved, after}
+use Rattle.hc_table.specs.Changes.{Did, Nothing, after}
 use Rattle.hc_table.specs.Kept.{Kept as Tables, with_world}
 use Rattle.hc_ops.specs.Act.{Act}
 use Rattle.hc_modes.specs.State.{ObjectsState, IsObjects}
 use Rattle.hc_modes.specs.Admitting.{ConstantsStay, FactsStay}
-use Rattle.hc_objects.specs.Came.{Came, IsStill, Moves}
 use Rattle.hc_modes.specs.Rest.{AreCalm}
+use Rattle.hc_modes.specs.Validity.{OnlyCells}
+use Rattle.hc_objects.specs.Came.{Came, IsStill}
+use Rattle.hc_objects.specs.Laws.{came-shape, once-moves}
 use Rattle.hc_commands.specs.declared.command.Command.{Command}
-use Rattle.hc_commands.specs.declared.command.Command.TheVariants.{Shape, Same, Declare}
+use Rattle.hc_commands.specs.declared.command.Command.TheVariants.{Shape, Same, Declare, Exec}
+use Rattle.hc_report.specs.Lines.{log_line}
 use Rattle.hc_report.specs.declared.line.Line.{Line}
-use Rattle.hc_session.specs.Logging.{lines_since, mark_of}
-use Rattle.hc_session.specs.Plain.{AnswersPlainly, IsServed, PlainState, act_in, is_of_sites, sites_after}
+use Rattle.hc_report.specs.declared.line.Line.TheVariants.{Cache, Slow}
+use Rattle.hc_report.specs.declared.marks.Mark.{Mark}
+use Rattle.hc_session.specs.Logging.{IsLegalLine, answers_in, lines_since, log_text, mark_of}
+use Rattle.hc_session.specs.Plain.{IsLogText, IsServed, IsTextIf, PlainState, act_in, is_access, is_of_sites, sites_after}
+use Rattle.hc_session.specs.Serving.{AreNamedSites, Serves, lines_of, way_line}
 use Rattle.hc_session.specs.Standing.{Standing, plain_of, plain_with, tables_of}
-use Rattle.hc_session.specs.State.{Does, IsTrueReply, Stands, Wants, answer_since, sites_by}
-use Rattle.hc_session.specs.Tables.{AnswersOnTables, IsOnTables, IsReplyOf, act_of, all_there, did_by, did_in, says}
-use Rattle.std.proofs.Math.Seq.{drop-length}
-use Rattle.std.proofs.lemmas.List.{length-map}
+use Rattle.hc_session.specs.State.{Became, Does, IsCheap, IsTrueReply, NotedInWant, Stands, Used, Wants, answer_since, sites_by}
+use Rattle.hc_session.specs.Tables.{AnswersOnTables, HasNumbers, IsOnTables, IsReplyOf, act_of, all_there, did_by, did_in, says}
+use Rattle.hc_objects.specs.State.{IsStanding}
+use Rattle.hc_session.specs.Using.{AreReadied, MovesInWant, is_accepted, uses_if}
+use Rattle.hc_session.proofs.Declares.{sites-named, sites-seen, want-named}
+use Rattle.hc_session.proofs.Readied.{IsKept, readied-tables, result-keeps}
 use mathlib.Core.Logic.{inl, inr}
 
 -- a served command that asks nothing of how objects are kept, nor of sites
@@ -33,18 +53,21 @@ pub on_tables : (command : Command) → IsServed command → is_of_sites command
 on_tables (Shape o) served objects no_shape no_same = absurd (no_shape o refl)
 on_tables (Same a b) served objects no_shape no_same = absurd (no_same a b refl)
 on_tables (Declare op name) served objects no_shape no_same = absurd (cc)
+on_tables (Exec s o value) served objects no_shape no_same = absurd (cc)
 on_tables command served objects no_shape no_same = served
 
--- a command that declares no site
-pub of_objects : (command : Command) → ((op : Op) (name : ℕ) → command ≡ Declare op name → ⊥) → is_of_sites command ≡ false
-of_objects (Declare op name) no_site = absurd (no_site op name refl)
-of_objects command no_site = refl
+-- a command that neither declares a site nor is an access
+pub of_objects : (command : Command) → ((op : Op) (name : ℕ) → command ≡ Declare op name → ⊥) → ((s o : ℕ) (value : Option Value) → command ≡ Exec s o value → ⊥) → is_of_sites command ≡ false
+of_objects (Declare op name) no_site no_access = absurd (no_site op name refl)
+of_objects (Exec s o value) no_site no_access = absurd (no_access s o value refl)
+of_objects command no_site no_access = refl
 
 -- its reply says nothing of it
 told_nothing : {P : Type 0} (objects : ObjectsState P) (command : Command) (reply : Reply) → IsOnTables command → IsTrueReply objects command reply
 told_nothing {P} objects (Shape o) reply on = absurd (cc)
 told_nothing {P} objects (Same a b) reply on = absurd (cc)
 told_nothing {P} objects (Declare op name) reply on = absurd (cc)
+told_nothing {P} objects (Exec s o value) reply on = absurd (cc)
 told_nothing {P} objects command reply on = tt
 
 pub result_tells_nothing : {P : Type 0} (objects : ObjectsState P) (command : Command) (r : Result Reply Memory) → IsOnTables command → IfOk r (λ reply. IsTrueReply objects command reply)
@@ -62,131 +85,280 @@ shape_does_nothing tables o = nothing_done (all_there tables (Shape o))
 pub same_does_nothing : (tables : Tables) (a b : ℕ) → did_by tables (Same a b) ≡ Nothing
 same_does_nothing tables a b = nothing_done (all_there tables (Same a b))
 
--- what a command on objects comes to, where there are sites beside them
+-- A command on objects, where there are sites beside them
+
 same_act : (plain : PlainState) (command : Command) → is_of_sites command ≡ false → act_in plain command ≡ act_of plain.tables command
 same_act plain (Declare op name) objects = absurd (cc)
+same_act plain (Exec s o value) objects = absurd (cc)
 same_act plain command objects = refl
 
-same_sites : (sites : List Site) (command : Command) → is_of_sites command ≡ false → sites_after sites command ≡ sites
-same_sites sites (Declare op name) objects = absurd (cc)
-same_sites sites command objects = refl
+same_states : {P : Type 0} (objects : ObjectsState P) (sites : List SiteState) (command : Command) → is_of_sites command ≡ false → sites_by objects sites command ≡ sites
+same_states {P} objects sites (Declare op name) on = absurd (cc)
+same_states {P} objects sites (Exec s o value) on = absurd (cc)
+same_states {P} objects sites command on = refl
 
-same_states : (sites : List SiteState) (command : Command) → is_of_sites command ≡ false → sites_by sites command ≡ sites
-same_states sites (Declare op name) objects = absurd (cc)
-same_states sites command objects = refl
+pub wanted_states : {P : Type 0} (went : P → List Access → List Access → P → Type 0) (objects : ObjectsState P) (sites : List SiteState) (command : Command) → NotedInWant went objects sites command sites
+wanted_states {P} went objects sites command = inl refl
 
-objects_answer : (old : Tables) (sites : List Site) (command : Command) (reply : Reply) (new : Tables) → is_of_sites command ≡ false → AnswersOnTables old command reply new → AnswersPlainly (record { tables = old; sites = sites }) command (record { log = []; reply = reply }) (record { tables = new; sites = sites })
-objects_answer old sites command reply new objects answers =
-    let act : act_in (record { tables = old; sites = sites }) command ≡ act_of old command = same_act (record { tables = old; sites = sites }) command objects in
+no_lines : {P : Type 0} (objects : ObjectsState P) (sites : List SiteState) (command : Command) → is_of_sites command ≡ false → lines_of objects sites command ≡ []
+no_lines {P} objects sites (Declare op name) on = refl
+no_lines {P} objects sites (Exec s o value) on = absurd (cc)
+no_lines {P} objects sites command on = refl
+
+no_more_lines : {P : Type 0} (objects : ObjectsState P) (sites : List SiteState) (log : List (ℕ × Line)) (command : Command) → is_of_sites command ≡ false → log ≡ log ++ lines_of objects sites command
+no_more_lines {P} objects sites log command on = sym (ap (λ (xs : List (ℕ × Line)). log ++ xs) (no_lines objects sites command on) ∙ append-nil log)
+
+not_cheap : {P : Type 0} (objects ready new : ObjectsState P) (sites : List SiteState) (command : Command) → is_of_sites command ≡ false → IsCheap objects ready sites command new
+not_cheap {P} objects ready new sites (Declare op name) on = tt
+not_cheap {P} objects ready new sites (Exec s o value) on = absurd (cc)
+not_cheap {P} objects ready new sites command on = tt
+
+-- it is accepted where each object that it names is there
+pub accepted_there : {P : Type 0} (objects : ObjectsState P) (sites : List SiteState) (command : Command) → is_of_sites command ≡ false → is_accepted (plain_with objects sites) command ≡ all_there (tables_of objects) command
+accepted_there {P} objects sites (Declare op name) on = absurd (cc)
+accepted_there {P} objects sites (Exec s o value) on = absurd (cc)
+accepted_there {P} objects sites command on = refl
+
+serve_objects : {P : Type 0} (went : P → List Access → List Access → P → Type 0) (old new : ObjectsState P) (sites : List SiteState) (log : List (ℕ × Line)) (command : Command) (reply : Reply) → is_of_sites command ≡ false → AnswersOnTables (tables_of old) command reply (tables_of new) → IsTrueReply new command reply
+    → Used went old (all_there (tables_of old) command) command (did_by (tables_of old) command) new → Serves went old sites log command reply new sites log
+serve_objects {P} went old new sites log command reply on answers kept used =
+    let act : act_in (plain_with old sites) command ≡ act_of (tables_of old) command = same_act (plain_with old sites) command on in
+    let accepted : is_accepted (plain_with old sites) command ≡ all_there (tables_of old) command = accepted_there old sites command on in
     record {
       reply_is = subst (λ (a : Option Act). IsReplyOf command a reply) (sym act) answers.reply_is;
-      tables_are = subst (λ (a : Option Act). new ≡ with_world old (after (did_in a) old.world)) (sym act) answers.tables_are;
-      sites_are = sym (same_sites sites command objects);
-      log_is = refl;
+      tables_are = subst (λ (a : Option Act). tables_of new ≡ with_world (tables_of old) (after (did_in a) (tables_of old).world)) (sym act) answers.tables_are;
+      kept = kept;
+      used = record {
+        ready = used.ready;
+        readied = subst (λ (x : Bool). AreReadied went old (uses_if x command) used.ready) (sym accepted) used.readied;
+        done = subst (λ (x : Bool). Became went x used.ready command (did_in (act_in (plain_with old sites) command)) new) (sym accepted)
+            (subst (λ (a : Option Act). Became went (all_there (tables_of old) command) used.ready command (did_in a) new) (sym act) used.done);
+      };
+      sites_are = sym (same_states used.ready sites command on);
+      lines_are = no_more_lines used.ready sites log command on;
+      cheap = not_cheap old used.ready new sites command on;
     }
 
-pub result_answers : (old : Tables) (sites : List Site) (command : Command) (r : Result Reply Memory) (new : Tables) → is_of_sites command ≡ false → IfOk r (λ reply. AnswersOnTables old command reply new) → IfOk r (λ reply. AnswersPlainly (record { tables = old; sites = sites }) command (record { log = []; reply = reply }) (record { tables = new; sites = sites }))
-result_answers old sites command (Ok reply) new objects answers = objects_answer old sites command reply new objects answers
-result_answers old sites command (Err fault) new objects answers = tt
+pub result_serves : {P : Type 0} (went : P → List Access → List Access → P → Type 0) (old new : ObjectsState P) (sites : List SiteState) (command : Command) (r : Result Reply Memory) → is_of_sites command ≡ false → IfOk r (λ reply. AnswersOnTables (tables_of old) command reply (tables_of new)) → IfOk r (λ reply. IsTrueReply new command reply)
+    → OnOk r (Used went old (all_there (tables_of old) command) command (did_by (tables_of old) command) new) → IfOk r (λ reply. (log : List (ℕ × Line)) → Serves went old sites log command reply new sites log)
+result_serves {P} went old new sites command (Ok reply) on answers kept used = λ log. serve_objects went old new sites log command reply on answers kept used
+result_serves {P} went old new sites command (Err fault) on answers kept used = tt
 
-pub result_came : {P : Type 0} (went : P → List Access → List Access → P → Type 0) (old new : ObjectsState P) (sites : List SiteState) (command : Command) (r : Result Reply Memory) → is_of_sites command ≡ false → OnOk r (Came went old (did_by (tables_of old) command) new) → OnOk r (Came went old (did_in (act_in (plain_with old sites) command)) new)
-result_came {P} went old new sites command (Ok reply) objects came =
-    subst (λ (a : Option Act). Came went old (did_in a) new) (sym (same_act (plain_with old sites) command objects)) came
-result_came {P} went old new sites command (Err fault) objects came = tt
+-- what is left for want of memory, where there are sites beside the objects
+pub result_left : {P : Type 0} (went : P → List Access → List Access → P → Type 0) (old new : ObjectsState P) (sites : List SiteState) (command : Command) (r : Result Reply Memory) → is_of_sites command ≡ false
+    → OnErr r (MovesInWant went old (uses_if (all_there (tables_of old) command) command) new) → OnErr r (MovesInWant went old (uses_if (is_accepted (plain_with old sites) command) command) new)
+result_left {P} went old new sites command (Ok reply) on want = tt
+result_left {P} went old new sites command (Err fault) on want = subst (λ (x : Bool). MovesInWant went old (uses_if x command) new) (sym (accepted_there old sites command on)) want
 
-pub result_sites : (sites : List SiteState) (command : Command) (r : Result Reply Memory) → is_of_sites command ≡ false → OnOk r (sites ≡ sites_by sites command)
-result_sites sites command (Ok reply) objects = sym (same_states sites command objects)
-result_sites sites command (Err fault) objects = tt
+-- A site that is declared
 
--- a site that is declared
-sites_with : (sites : List SiteState) (site : Site) → map (λ (s : SiteState). s.site) (sites ++ new_site site ∷ []) ≡ map (λ (s : SiteState). s.site) sites ++ site ∷ []
-sites_with [] site = refl
-sites_with (x ∷ xs) site = ap (λ (rest : List Site). x.site ∷ rest) (sites_with xs site)
-
-pub declared_answer : {P : Type 0} (objects : ObjectsState P) (old new : List SiteState) (op : Op) (name : ℕ) (r : Result Reply Memory) → IfOk r (λ reply. reply ≡ SiteReply (length old)) → OnOk r (new ≡ old ++ new_site (record { op = op; name = name }) ∷ []) → IfOk r (λ reply. AnswersPlainly (plain_with objects old) (Declare op name) (record { log = []; reply = reply }) (plain_with objects new))
-declared_answer {P} objects old new op name (Ok reply) told added = record {
-  reply_is = rw (length-map old (λ (s : SiteState). s.site)) told;
-  tables_are = refl;
-  sites_are = rw added (sites_with old (record { op = op; name = name }));
-  log_is = refl;
-}
-declared_answer {P} objects old new op name (Err fault) told added = tt
-
--- which leaves the objects as they are
-no_move : {P : Type 0} (objects : ObjectsState P) → IsStill objects objects
+pub no_move : {P : Type 0} (objects : ObjectsState P) → IsStill objects objects
 no_move {P} objects = record { is = refl; loads = omega arith }
 
-pub declared_came : {P : Type 0} (went : P → List Access → List Access → P → Type 0) (objects : ObjectsState P) (sites : List SiteState) (op : Op) (name : ℕ) (r : Result Reply Memory) → OnOk r (Came went objects (did_in (act_in (plain_with objects sites) (Declare op name))) objects)
-declared_came {P} went objects sites op name (Ok reply) = no_move objects
-declared_came {P} went objects sites op name (Err fault) = tt
+pub declares : {P : Type 0} (went : P → List Access → List Access → P → Type 0) (objects : ObjectsState P) (old new : List SiteState) (op : Op) (name : ℕ) (reply : Reply) → reply ≡ SiteReply (length old) → new ≡ old ++ new_site (record { op = op; name = name }) ∷ []
+    → (log : List (ℕ × Line)) → Serves went objects old log (Declare op name) reply objects new log
+declares {P} went objects old new op name reply told added log = record {
+  reply_is = rw (length-map old (λ (s : SiteState). s.site)) told;
+  tables_are = refl;
+  kept = tt;
+  used = record { ready = objects; readied = refl; done = no_move objects };
+  sites_are = added;
+  lines_are = sym (append-nil log);
+  cheap = tt;
+}
 
-pub declared_moves : {P : Type 0} (went : P → List Access → List Access → P → Type 0) (objects : ObjectsState P) (r : Result Reply Memory) → OnErr r (Moves went objects objects)
-declared_moves {P} went objects (Ok reply) = tt
-declared_moves {P} went objects (Err fault) = inl (no_move objects)
+pub result_still : {P : Type 0} (went : P → List Access → List Access → P → Type 0) (objects : ObjectsState P) (uses : List ℕ) (r : Result Reply Memory) → OnErr r (MovesInWant went objects uses objects)
+result_still {P} went objects uses (Ok reply) = tt
+result_still {P} went objects uses (Err fault) = record { first = []; left = uses; split = refl; ready = objects; readied = refl; moves = once-moves went objects objects (inl (no_move objects)) }
 
-pub declared_tells_nothing : {P : Type 0} (objects : ObjectsState P) (op : Op) (name : ℕ) (r : Result Reply Memory) → IfOk r (λ reply. IsTrueReply objects (Declare op name) reply)
-declared_tells_nothing {P} objects op name (Ok reply) = tt
-declared_tells_nothing {P} objects op name (Err fault) = tt
+-- the log by one of its lines
+pub result_with : {P : Type 0} (went : P → List Access → List Access → P → Type 0) (objects new : ObjectsState P) (old now : List SiteState) (command : Command) (r : Result Reply Memory) (log : List (ℕ × Line)) → IfOk r (λ reply. (log : List (ℕ × Line)) → Serves went objects old log command reply new now log) → IfOk r (λ reply. Serves went objects old log command reply new now log)
+result_with {P} went objects new old now command (Ok reply) log serves = serves log
+result_with {P} went objects new old now command (Err fault) log serves = tt
+
+-- What stands in the log
+
+way_legal : {P : Type 0} (old : Standing P) (ready : ObjectsState P) (s o : ℕ) (value : Option Value) (cached : Bool) → is_access (plain_of old) (Exec s o value) ≡ true → is_cached ready.heap.view.trail old.sites s o ≡ cached → IsLegalLine old ready (Exec s o value) (counted (length ready.heap.desk.trail)) (way_line cached s)
+way_legal {P} old ready s o value true accepted is = (refl, record { accepted = accepted; position = refl; way = is })
+way_legal {P} old ready s o value false accepted is = (refl, record { accepted = accepted; position = refl; way = is })
+
+abbrev AreLegal : {P : Type 0} → Standing P → ObjectsState P → Command → List (ℕ × Line) → Type 0
+AreLegal old ready command lines = AllByRecursion (λ (entry : ℕ × Line). IsLegalLine old ready command entry.0 entry.1) lines
+
+access_legal : {P : Type 0} (old : Standing P) (ready : ObjectsState P) (s o : ℕ) (value : Option Value) (b : Bool) → is_access (plain_of old) (Exec s o value) ≡ b
+    → AreLegal old ready (Exec s o value) (if b then (counted (length ready.heap.desk.trail), way_line (is_cached ready.heap.view.trail old.sites s o) s) ∷ [] else [])
+access_legal {P} old ready s o value true is = (way_legal old ready s o value (is_cached ready.heap.view.trail old.sites s o) is refl, tt)
+access_legal {P} old ready s o value false is = tt
+
+-- an access is accepted as it was, once its receiver was migrated
+same_access : {P : Type 0} (old ready : ObjectsState P) (sites : List SiteState) (command : Command) → tables_of ready ≡ tables_of old → is_access (plain_with ready sites) command ≡ is_access (plain_with old sites) command
+same_access {P} old ready sites command same = ap (λ (t : Tables). is_access (record { tables = t; sites = map (λ (x : SiteState). x.site) sites }) command) same
+
+lines_legal : {P : Type 0} (old : Standing P) (ready : ObjectsState P) (command : Command) → tables_of ready ≡ tables_of old.objects → AreLegal old ready command (lines_of ready old.sites command)
+lines_legal {P} old ready (Exec s o value) same = access_legal old ready s o value (is_access (plain_with ready old.sites) (Exec s o value)) (sym (same_access old.objects ready old.sites (Exec s o value) same))
+lines_legal {P} old ready command same = tt
+
+one_way : (at s : ℕ) (cached : Bool) → answers_in ((at, way_line cached s) ∷ []) ≡ 1
+one_way at s true = refl
+one_way at s false = refl
+
+one_if : (b : Bool) (at s : ℕ) (cached : Bool) → answers_in (if b then (at, way_line cached s) ∷ [] else []) ≡ (if b then 1 else 0)
+one_if true at s cached = one_way at s cached
+one_if false at s cached = refl
+
+one_line : {P : Type 0} (old : Standing P) (ready : ObjectsState P) (command : Command) → tables_of ready ≡ tables_of old.objects → answers_in (lines_of ready old.sites command) ≡ (if is_access (plain_of old) command then 1 else 0)
+one_line {P} old ready (Exec s o value) same =
+    one_if (is_access (plain_with ready old.sites) (Exec s o value)) _ s (is_cached ready.heap.view.trail old.sites s o)
+    ∙ ap (λ (x : Bool). if x then 1 else 0) (same_access old.objects ready old.sites (Exec s o value) same)
+one_line {P} old ready command same = refl
+
+way_text : (at s : ℕ) (cached : Bool) → IsTextIf true s (log_text ((at, way_line cached s) ∷ []))
+way_text at s true = inl (append-nil (log_line (Cache s)))
+way_text at s false = inr (append-nil (log_line (Slow s)))
+
+text_if : (b : Bool) (at s : ℕ) (cached : Bool) → IsTextIf b s (log_text (if b then (at, way_line cached s) ∷ [] else []))
+text_if true at s cached = way_text at s cached
+text_if false at s cached = refl
+
+line_text : {P : Type 0} (old : Standing P) (ready : ObjectsState P) (command : Command) → tables_of ready ≡ tables_of old.objects → IsLogText (plain_of old) command (log_text (lines_of ready old.sites command))
+line_text {P} old ready (Exec s o value) same =
+    subst (λ (x : Bool). IsTextIf x s (log_text (lines_of ready old.sites (Exec s o value)))) (same_access old.objects ready old.sites (Exec s o value) same)
+    (text_if (is_access (plain_with ready old.sites) (Exec s o value)) _ s (is_cached ready.heap.view.trail old.sites s o))
+line_text {P} old ready command same = refl
+
+-- the sites that tables see
+seen_by : {P : Type 0} (old ready : ObjectsState P) (sites now : List SiteState) (command : Command) → now ≡ sites_by ready sites command → map (λ (x : SiteState). x.site) now ≡ sites_after (map (λ (x : SiteState). x.site) sites) command
+seen_by {P} old ready sites now command is = ap (λ (xs : List SiteState). map (λ (x : SiteState). x.site) xs) is ∙ sites-seen ready sites command
+
+-- facts, one thing after another
+facts_on : ConstantsStayOn → (s r : Shapes) (a b c : Trail) → r ≡ s → FactsStay s a b → FactsStay r b c → FactsStay s a c
+facts_on law s r a b c same x y = record {
+  goes = goes-further s x.goes (subst (λ (q : Shapes). GoesOn q b c) same y.goes);
+  constants = law s a b c x.goes (subst (λ (q : Shapes). GoesOn q b c) same y.goes) x.constants y.constants;
+  honest = λ h. y.honest (x.honest h);
+}
+
+facts_none : (s : Shapes) (t : Trail) → Lawful s t → FactsStay s t t
+facts_none s t lawful = record { goes = goes-still s lawful; constants = λ o m k f d datum admits const stable. refl; honest = λ h. h }
 
 -- all that a command does
 module _ {P : Type 0} (went : P → List Access → List Access → P → Type 0) where
-  step_done : (old new : Standing P) (command : Command) (reply : Reply) → IsServed command → AnswersPlainly (plain_of old) command (record { log = []; reply = reply }) (plain_of new) → IsTrueReply old.objects command reply → Came went old.objects (did_in (act_in (plain_of old) command)) new.objects → new.sites ≡ sites_by old.sites command → new.log ≡ old.log → new.marks ≡ old.marks ++ mark_of old ∷ [] → Stands new.objects → Does went old command (answer_since old reply new) new
-  step_done old new command reply served answers kept came sites log marks stands =
-      let none : lines_since old new ≡ [] = ap (λ (lines : List (ℕ × Line)). drop (length old.log) lines) log ∙ drop-length old.log in
+  step_done : (old new : Standing P) (command : Command) (reply : Reply) → IsServed command → Serves went old.objects old.sites old.log command reply new.objects new.sites new.log → new.marks ≡ old.marks ++ mark_of old ∷ [] → Stands new.objects → Does went old command (answer_since old reply new) new
+  step_done old new command reply served serves marks stands =
+      let ready = serves.used.ready in
+      let same : tables_of ready ≡ tables_of old.objects = readied-tables went (uses_if (is_accepted (plain_of old) command) command) old.objects ready serves.used.readied in
+      let lines : lines_since old new ≡ lines_of ready old.sites command = ap (λ (xs : List (ℕ × Line)). drop (length old.log) xs) serves.lines_are ∙ drop_at old.log (lines_of ready old.sites command) (length old.log) refl in
       record {
         served = served;
         answers = record {
-          reply_is = answers.reply_is;
-          tables_are = answers.tables_are;
-          sites_are = answers.sites_are;
-          log_is = rw none refl;
+          reply_is = serves.reply_is;
+          tables_are = serves.tables_are;
+          sites_are = seen_by old.objects ready old.sites new.sites command serves.sites_are;
+          log_is = subst (λ (xs : List (ℕ × Line)). IsLogText (plain_of old) command (log_text xs)) (sym lines) (line_text old ready command same);
         };
-        kept = kept;
-        came = came;
+        kept = serves.kept;
+        used = serves.used;
         stands = stands;
-        sites = sites;
-        logs = record { mark = marks; log = rw (none, log) (sym (append-nil old.log)); legal = rw none tt };
+        sites = serves.sites_are;
+        cheap = serves.cheap;
+        logs = record {
+          mark = marks;
+          log = serves.lines_are ∙ ap (λ (xs : List (ℕ × Line)). old.log ++ xs) (sym lines);
+          legal = subst (AreLegal old ready command) (sym lines) (lines_legal old ready command same);
+          one = ap answers_in lines ∙ one_line old ready command same;
+        };
         log_is = refl;
       }
 
-  result_does : (old new : Standing P) (command : Command) (r : Result Reply Memory) → IsServed command → IfOk r (λ reply. AnswersPlainly (plain_of old) command (record { log = []; reply = reply }) (plain_of new)) → IfOk r (λ reply. IsTrueReply old.objects command reply) → OnOk r (Came went old.objects (did_in (act_in (plain_of old) command)) new.objects) → OnOk r (new.sites ≡ sites_by old.sites command) → new.log ≡ old.log → new.marks ≡ old.marks ++ mark_of old ∷ [] → Stands new.objects → IfOk r (λ reply. Does went old command (answer_since old reply new) new)
-  result_does old new command (Ok reply) served answers kept came sites log marks stands =
-      step_done old new command reply served answers kept came sites log marks stands
-  result_does old new command (Err fault) served answers kept came sites log marks stands = tt
+  result_does : (old new : Standing P) (command : Command) (r : Result Reply Memory) → IsServed command → IfOk r (λ reply. Serves went old.objects old.sites old.log command reply new.objects new.sites new.log) → new.marks ≡ old.marks ++ mark_of old ∷ [] → Stands new.objects → IfOk r (λ reply. Does went old command (answer_since old reply new) new)
+  result_does old new command (Ok reply) served serves marks stands = step_done old new command reply served serves marks stands
+  result_does old new command (Err fault) served serves marks stands = tt
 
   -- once it has its mark
-  pub result_done : (old marked new : Standing P) (command : Command) (r : Result Reply Memory) → IsServed command → marked ≡ record old { marks = old.marks ++ mark_of old ∷ []; fresh = false } → IfOk r (λ reply. AnswersPlainly (plain_of marked) command (record { log = []; reply = reply }) (plain_of new)) → IfOk r (λ reply. IsTrueReply marked.objects command reply) → OnOk r (Came went marked.objects (did_in (act_in (plain_of marked) command)) new.objects) → OnOk r (new.sites ≡ sites_by marked.sites command) → new.log ≡ marked.log → new.marks ≡ marked.marks → Stands new.objects → IfOk r (λ reply. Does went old command (answer_since old reply new) new)
-  result_done old marked new command r served same answers kept came sites log marks stands =
+  pub result_done : (old marked new : Standing P) (command : Command) (r : Result Reply Memory) → IsServed command → marked ≡ record old { marks = old.marks ++ mark_of old ∷ []; fresh = false } → IfOk r (λ reply. Serves went marked.objects marked.sites marked.log command reply new.objects new.sites new.log) → new.marks ≡ marked.marks → Stands new.objects → IfOk r (λ reply. Does went old command (answer_since old reply new) new)
+  result_done old marked new command r served same serves marks stands =
       result_does old new command r served
-      (subst (λ (s : Standing P). IfOk r (λ reply. AnswersPlainly (plain_of s) command (record { log = []; reply = reply }) (plain_of new))) same answers)
-      (subst (λ (s : Standing P). IfOk r (λ reply. IsTrueReply s.objects command reply)) same kept)
-      (subst (λ (s : Standing P). OnOk r (Came went s.objects (did_in (act_in (plain_of s) command)) new.objects)) same came)
-      (subst (λ (s : Standing P). OnOk r (new.sites ≡ sites_by s.sites command)) same sites)
-      (subst (λ (s : Standing P). new.log ≡ s.log) same log)
+      (subst (λ (s : Standing P). IfOk r (λ reply. Serves went s.objects s.sites s.log command reply new.objects new.sites new.log)) same serves)
       (subst (λ (s : Standing P). new.marks ≡ s.marks) same marks)
       stands
 
+  -- what a result says of objects
+  pub used_of : (old new : ObjectsState P) (sites sites_now : List SiteState) (log log_now : List (ℕ × Line)) (command : Command) (r : Result Reply Memory) → IfOk r (λ reply. Serves went old sites log command reply new sites_now log_now) → OnOk r (Used went old (is_accepted (plain_with old sites) command) command (did_in (act_in (plain_with old sites) command)) new)
+  used_of old new sites sites_now log log_now command (Ok reply) serves = serves.used
+  used_of old new sites sites_now log log_now command (Err fault) serves = tt
+
+  -- what everything keeps that is done is kept
+  pub result_kept : (K : ObjectsState P → Type 0) → IsKept went K → ((x y : ObjectsState P) → AskedCell went x y → K x → K y) → (old new : ObjectsState P) (sites sites_now : List SiteState) (log log_now : List (ℕ × Line)) (command : Command) (r : Result Reply Memory) → IsStanding old → IsStanding new → IfOk r (λ reply. Serves went old sites log command reply new sites_now log_now)
+      → OnErr r (MovesInWant went old (uses_if (is_accepted (plain_with old sites) command) command) new) → K old → K new
+  result_kept K kept asking old new sites sites_now log log_now command r sound now serves wants k =
+      result-keeps went Reply K kept old new (is_accepted (plain_with old sites) command) command (did_in (act_in (plain_with old sites) command)) r (λ s o value is. asking) sound now (used_of old new sites sites_now log log_now command r serves) wants k
+
   -- no map becomes unstable that a prototype has
-  pub result_calm : ((a b : ObjectsState P) (did : Did) → IsObjects a.heap.view a.kept a.of_null → IsObjects b.heap.view b.kept b.of_null → Came went a did b → AreCalm a.heap.view.trail → AreCalm b.heap.view.trail) → (old new : ObjectsState P) (did : Did) (r : Result Reply Memory) → IsObjects old.heap.view old.kept old.of_null → IsObjects new.heap.view new.kept new.of_null → OnOk r (Came went old did new) → OnErr r (Moves went old new) → AreCalm old.heap.view.trail → AreCalm new.heap.view.trail
-  result_calm law old new did (Ok reply) sound still came moves calm = law old new did sound still came calm
-  result_calm law old new did (Err fault) sound still came moves calm = law old new Moved sound still moves calm
+  pub result_calm : ((a b : ObjectsState P) (did : Did) → IsObjects a.heap.view a.kept a.of_null → IsObjects b.heap.view b.kept b.of_null → Came went a did b → AreCalm a.heap.view.trail → AreCalm b.heap.view.trail) → ((a b : ObjectsState P) → OnlyCells went a b → AreCalm a.heap.view.trail → AreCalm b.heap.view.trail)
+      → (old new : ObjectsState P) (sites sites_now : List SiteState) (log log_now : List (ℕ × Line)) (command : Command) (r : Result Reply Memory) → IsStanding old → IsStanding new → IfOk r (λ reply. Serves went old sites log command reply new sites_now log_now)
+      → OnErr r (MovesInWant went old (uses_if (is_accepted (plain_with old sites) command) command) new) → AreCalm old.heap.view.trail → AreCalm new.heap.view.trail
+  result_calm law cells old new sites sites_now log log_now command r sound now serves wants calm =
+      result_kept (λ (s : ObjectsState P). AreCalm s.heap.view.trail)
+      (λ x y did first second came calm. law x y did first.objects second.objects came calm) (λ x y asked calm. cells x y asked.only calm)
+      old new sites sites_now log log_now command r sound now serves wants calm
 
   -- what fields say stays true, and constants stay
-  pub result_facts : ((a b : ObjectsState P) (did : Did) → IsObjects a.heap.view a.kept a.of_null → Came went a did b → FactsStay a.heap.view.shape a.heap.view.trail b.heap.view.trail) → (old new : ObjectsState P) (did : Did) (r : Result Reply Memory) → IsObjects old.heap.view old.kept old.of_null → OnOk r (Came went old did new) → OnErr r (Moves went old new) → FactsStay old.heap.view.shape old.heap.view.trail new.heap.view.trail
-  result_facts law old new did (Ok reply) sound came moves = law old new did sound came
-  result_facts law old new did (Err fault) sound came moves = law old new Moved sound moves
+  pub result_facts : ConstantsStayOn → ((a b : ObjectsState P) (did : Did) → IsObjects a.heap.view a.kept a.of_null → Came went a did b → FactsStay a.heap.view.shape a.heap.view.trail b.heap.view.trail) → ((a b : ObjectsState P) → OnlyCells went a b → FactsStay a.heap.view.shape a.heap.view.trail b.heap.view.trail)
+      → (old new : ObjectsState P) (sites sites_now : List SiteState) (log log_now : List (ℕ × Line)) (command : Command) (r : Result Reply Memory) → IsStanding old → IsStanding new → IfOk r (λ reply. Serves went old sites log command reply new sites_now log_now)
+      → OnErr r (MovesInWant went old (uses_if (is_accepted (plain_with old sites) command) command) new) → FactsStay old.heap.view.shape old.heap.view.trail new.heap.view.trail
+  result_facts on law cells old new sites sites_now log log_now command r sound now serves wants =
+      (result_kept (λ (s : ObjectsState P). (s.heap.view.shape ≡ old.heap.view.shape) × FactsStay old.heap.view.shape old.heap.view.trail s.heap.view.trail)
+      (λ x y did first second came k. (came-shape went x y did came ∙ k.0, facts_on on old.heap.view.shape x.heap.view.shape old.heap.view.trail x.heap.view.trail y.heap.view.trail k.0 k.1 (law x y did first.objects came)))
+      (λ x y asked k. (asked.only.steps.shape ∙ k.0, facts_on on old.heap.view.shape x.heap.view.shape old.heap.view.trail x.heap.view.trail y.heap.view.trail k.0 k.1 (cells x y asked.only)))
+      old new sites sites_now log log_now command r sound now serves wants (refl, facts_none old.heap.view.shape old.heap.view.trail sound.objects.heap.lawful)).1
 
   pub constants_kept : (old new : ObjectsState P) → new ≡ old → ConstantsStay old.heap.view.trail new.heap.view.trail
   constants_kept old new same = subst (λ (o : ObjectsState P). ConstantsStay old.heap.view.trail o.heap.view.trail) (sym same) (λ o m k f d datum detail constness stable. refl)
 
-  pub nothing_begun : (old new : Standing P) → new ≡ record old { fresh = false } → Wants went old new
-  nothing_begun old new same = inl (record {
+  pub nothing_begun : (old new : Standing P) (command : Command) → new ≡ record old { fresh = false } → Wants went old command new
+  nothing_begun old new command same = inl (record {
     objects = ap (λ (s : Standing P). s.objects) same;
     sites = ap (λ (s : Standing P). s.sites) same;
     log = ap (λ (s : Standing P). s.log) same;
     marks = ap (λ (s : Standing P). s.marks) same;
   })
 
-  pub result_wants : (old new : Standing P) (r : Result Reply Memory) → OnErr r (Moves went old.objects new.objects) → OnErr r (new.sites ≡ old.sites) → new.log ≡ old.log → new.marks ≡ old.marks ++ mark_of old ∷ [] → OnErr r (Wants went old new)
-  result_wants old new (Ok reply) moves sites log marks = tt
-  result_wants old new (Err fault) moves sites log marks = inr (record { moves = moves; sites = sites; log = log; mark = marks })
+  pub result_wants : (old new : Standing P) (command : Command) (r : Result Reply Memory) → OnErr r (MovesInWant went old.objects (uses_if (is_accepted (plain_of old) command) command) new.objects) → OnErr r (NotedInWant went old.objects old.sites command new.sites) → OnErr r (new.log ≡ old.log) → new.marks ≡ old.marks ++ mark_of old ∷ [] → OnErr r (Wants went old command new)
+  result_wants old new command (Ok reply) moves sites log marks = tt
+  result_wants old new command (Err fault) moves sites log marks = inr (record { moves = moves; sites = sites; log = log; mark = marks })
+
+  -- the same once the command has its mark
+  pub result_wanted : (old marked new : Standing P) (command : Command) (r : Result Reply Memory) → marked ≡ record old { marks = old.marks ++ mark_of old ∷ []; fresh = false } → OnErr r (MovesInWant went marked.objects (uses_if (is_accepted (plain_of marked) command) command) new.objects) → OnErr r (NotedInWant went marked.objects marked.sites command new.sites) → OnErr r (new.log ≡ marked.log) → new.marks ≡ marked.marks → OnErr r (Wants went old command new)
+  result_wanted old marked new command r same moves sites log marks =
+      result_wants old new command r
+      (subst (λ (s : Standing P). OnErr r (MovesInWant went s.objects (uses_if (is_accepted (plain_of s) command) command) new.objects)) same moves)
+      (subst (λ (s : Standing P). OnErr r (NotedInWant went s.objects s.sites command new.sites)) same sites)
+      (subst (λ (s : Standing P). OnErr r (new.log ≡ s.log)) same log)
+      (marks ∙ ap (λ (s : Standing P). s.marks) same)
+
+-- A session that was begun with, and its log and marks once a command has its mark, or lacked memory for it
+
+module _ {P : Type 0} (old inside : Standing P) (log_now : List (ℕ × Line)) (marks_now : List Mark) (view : inside ≡ old) (same : log_now ≡ inside.log) where
+  pub has_mark : marks_now ≡ inside.marks ++ mark_of inside ∷ [] → ◌≡◌ {A = Standing P} (record inside { log = log_now; marks = marks_now; fresh = false }) (record old { marks = old.marks ++ mark_of old ∷ []; fresh = false })
+  has_mark marked =
+      ap (λ (xs : List (ℕ × Line)). record inside { log = xs; marks = marks_now; fresh = false }) same
+      ∙ (ap (λ (ms : List Mark). record inside { marks = ms; fresh = false }) marked
+      ∙ ap (λ (s : Standing P). record s { marks = s.marks ++ mark_of s ∷ []; fresh = false }) view)
+
+  pub has_none : (went : P → List Access → List Access → P → Type 0) (command : Command) → marks_now ≡ inside.marks → Wants went old command (record inside { log = log_now; marks = marks_now; fresh = false })
+  has_none went command unmarked = inl (record {
+    objects = ap (λ (s : Standing P). s.objects) view;
+    sites = ap (λ (s : Standing P). s.sites) view;
+    log = same ∙ ap (λ (s : Standing P). s.log) view;
+    marks = unmarked ∙ ap (λ (s : Standing P). s.marks) view;
+  })
+
+-- the names of sites have numbers afterwards
+pub noted_names : {P : Type 0} (went : P → List Access → List Access → P → Type 0) (old new : ObjectsState P) (sites sites_now : List SiteState) (command : Command) (count : ℕ) → NotedInWant went old sites command sites_now → AreNamedSites count (plain_with old sites).sites → AreNamedSites count (plain_with new sites_now).sites
+noted_names {P} went old new sites sites_now command count (inl same) named = subst (λ (xs : List SiteState). AreNamedSites count (plain_with new xs).sites) (sym same) named
+noted_names {P} went old new sites sites_now command count (inr noted) named = subst (λ (xs : List SiteState). AreNamedSites count (plain_with new xs).sites) (sym noted.2) (want-named count noted.0 sites command named)
+
+pub result_names : {P : Type 0} (old : ObjectsState P) (sites sites_now : List SiteState) (log log_now : List (ℕ × Line)) (went : P → List Access → List Access → P → Type 0) (new : ObjectsState P) (command : Command) (r : Result Reply Memory) → HasNumbers command → IfOk r (λ reply. Serves went old sites log command reply new sites_now log_now) → OnErr r (NotedInWant went old sites command sites_now) → AreNamedSites TEXT_LIMIT (plain_with old sites).sites → AreNamedSites TEXT_LIMIT (plain_with new sites_now).sites
+result_names {P} old sites sites_now log log_now went new command (Ok reply) numbers serves noted named =
+    subst (λ (xs : List SiteState). AreNamedSites TEXT_LIMIT (plain_with new xs).sites) (sym serves.sites_are) (sites-named TEXT_LIMIT serves.used.ready sites command numbers named)
+result_names {P} old sites sites_now log log_now went new command (Err fault) numbers serves noted named = noted_names went old new sites sites_now command TEXT_LIMIT noted named

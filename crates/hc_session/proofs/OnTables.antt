@@ -1,13 +1,19 @@
 -- A run over objects is one over property tables.
-use Rattle.std.proofs.Common.{◌≡◌, ℕ, List, [], ◌∷◌, refl, ap, subst, Option}
-use Rattle.hc_table.specs.Changes.{Moved}
-use Rattle.hc_objects.specs.Laws.{came-world, came-shape}
+use Rattle.std.proofs.Common.{◌≡◌, ℕ, List, [], ◌∷◌, map, refl, sym, ap, ◌∙◌, subst, Option}
+use Rattle.hc_table.specs.Kept.{Kept as Tables}
+use Rattle.hc_plan.specs.declared.case.Site.{Site}
+use Rattle.hc_sites.specs.declared.state.SiteState.{SiteState}
+use Rattle.hc_commands.specs.declared.command.Command.{Command}
 use Rattle.hc_script.specs.declared.fault.What.{What}
 use Rattle.hc_script.specs.declared.fault.Status.{Status}
 use Rattle.hc_script.specs.declared.fault.Status.TheVariants.{Done, BadWords, BadScript, ReadFault, WriteFault, Memory}
 use Rattle.hc_session.specs.Plain.{AnswersPlainly, PlainState}
-use Rattle.hc_session.specs.Standing.{Standing, plain_of}
-use Rattle.hc_session.specs.State.{Does, Wants, any_pace}
+use Rattle.hc_session.specs.Standing.{Standing, plain_of, tables_of}
+use Rattle.hc_modes.specs.State.{ObjectsState}
+use Rattle.hc_session.specs.State.{Does, NotedInWant, Wants, any_pace}
+use Rattle.hc_session.specs.Using.{is_accepted, uses_if}
+use Rattle.hc_session.proofs.Readied.{want-tables}
+use Rattle.hc_session.proofs.Declares.{want-seen}
 use Rattle.hc_session.specs.Output.{Outside, Place, Answers, AnswersLine, AnswersNext, PassesLine, AnswersUntilRefused, AnswersUntilFault}
 use Rattle.hc_session.specs.Replay.{RepliesAsTables, EndsRun, nothing_made, the_first_place}
 use Rattle.hc_session.specs.Fresh.{IsNew}
@@ -46,16 +52,21 @@ module _ {P : Type 0} where
       record { line = h.line; there = h.there; next = line_on_tables place end h.line more h.next }
 
   -- want of memory leaves the tables and the sites
-  want_keeps_tables : (old new : Standing P) → Wants any_pace old new → plain_of old ≡ plain_of new
-  want_keeps_tables old new (inl same) = rw (same.objects, same.sites) refl
-  want_keeps_tables old new (inr marked) =
-      rw (marked.sites, came-world any_pace old.objects new.objects Moved marked.moves, came-shape any_pace old.objects new.objects Moved marked.moves) refl
+  want_keeps_tables : (old new : Standing P) (command : Command) → Wants any_pace old command new → plain_of old ≡ plain_of new
+  want_keeps_tables old new command (inl same) = rw (same.objects, same.sites) refl
+  want_keeps_tables old new command (inr marked) =
+      ap (λ (tables : Tables). record { tables = tables; sites = (plain_of old).sites }) (sym (want-tables any_pace old.objects new.objects (uses_if (is_accepted (plain_of old) command) command) marked.moves))
+      ∙ ap (λ (xs : List Site). record { tables = tables_of new.objects; sites = xs }) (sym (noted old.objects old.sites new.sites command marked.sites))
+    where
+      noted : (objects : ObjectsState P) (sites now : List SiteState) (command : Command) → NotedInWant any_pace objects sites command now → map (λ (x : SiteState). x.site) now ≡ map (λ (x : SiteState). x.site) sites
+      noted objects sites now command (inl same) = ap (λ (xs : List SiteState). map (λ (x : SiteState). x.site) xs) same
+      noted objects sites now command (inr h) = ap (λ (xs : List SiteState). map (λ (x : SiteState). x.site) xs) h.2 ∙ want-seen h.0 sites command
 
   ends_same : (old new : Standing P) (end : Place (Standing P)) → IsLeft old new end → plain_of end.state ≡ plain_of new
   ends_same old new end left = ap (λ (s : Standing P). plain_of s) left.same
 
   leaves_tables : (before : Option (List ℕ)) (old new : Standing P) (lines : List (List ℕ)) (place : Place (Standing P)) → IsLeftInWant old new place ⊎ ((more : List ℕ) × (end : Place (Standing P)) × AnswersNext (Does any_pace) before lines place more end × IsLeft old new end) → (plain_of place.state ≡ plain_of new) ⊎ ((more : List ℕ) × (end : Place PlainState) × AnswersNext AnswersPlainly before lines (seen_as_tables place) more end × (end.state ≡ plain_of new))
-  leaves_tables before old new lines place (inl left) = inl (want_keeps_tables place.state new left.wants)
+  leaves_tables before old new lines place (inl left) = inl (want_keeps_tables place.state new left.command left.wants)
   leaves_tables before old new lines place (inr h) =
       inr (h.0, seen_as_tables h.1, next_on_tables before lines place h.1 h.0 h.2, ends_same old new h.1 h.3)
 

@@ -21,4 +21,4 @@ pub record AnswersPartly {P : Type 0} (old : Standing P) (names : List (List ℕ
 
 -- the command lacked memory, or it was performed, and memory ran out for its lines
 abbrev pub LacksMemory : {P : Type 0} → Standing P → Command → Standing P → Type 0
-LacksMemory old command new = Wants any_pace old new ⊎ ((answer : Answer) × Does any_pace old command answer new)
+LacksMemory old command new = Wants any_pace old command new ⊎ ((answer : Answer) × Does any_pace old command answer new)

@@ -1,12 +1,15 @@
 -- What a session keeps.
 use Rattle.std.specs.Prelude.{◌≡◌, ◌≤◌, true, None, []}
 use Rattle.hc_layout.specs.declared.shape.TheConstants.{USUAL}
+use Rattle.hc_value.specs.declared.word.TheConstants.{TEXT_LIMIT}
+use Rattle.hc_access.specs.Entries.{AreGood}
 use Rattle.hc_heap.specs.States.{no_items}
 use Rattle.hc_modes.specs.Admitting.{IsHonest}
 use Rattle.hc_objects.specs.Came.{world_of}
 use Rattle.hc_modes.specs.Rest.{AreCalm}
 use Rattle.hc_modes.specs.State.{ObjectsState}
-use Rattle.hc_session.specs.Standing.{Standing}
+use Rattle.hc_session.specs.Serving.{AreNamedSites}
+use Rattle.hc_session.specs.Standing.{Standing, plain_of}
 
 -- a state in which nothing was done: there is no object, no word was stored, no item handed out and no reader met
 pub record IsUntouched {P : Type 0} (objects : ObjectsState P) : Type 0 where
@@ -26,9 +29,12 @@ pub record IsNew {P : Type 0} (session : Standing P) : Type 0 where
   pub marks : session.marks ≡ []
 
 -- where no command was performed nothing was done; there may be at most as many objects as in the usual shape; no map is unstable
--- that a prototype has; and what each field says of values is true of all objects
+-- that a prototype has; what each field says of values is true of all objects; each site's name has a number; and each entry of an
+-- inline cache says where full lookup finds the property
 pub record IsSession {P : Type 0} (session : Standing P) : Type 0 where
   pub fresh : session.fresh ≡ true → IsNew session
   pub few : session.objects.heap.view.shape.objects ≤ USUAL.objects
   pub calm : AreCalm session.objects.heap.view.trail
   pub honest : IsHonest session.objects.heap.view.trail
+  pub names : AreNamedSites TEXT_LIMIT (plain_of session).sites
+  pub good : AreGood session.objects session.sites

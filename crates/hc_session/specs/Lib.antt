@@ -1,8 +1,10 @@
 pub mod Tables
 pub mod Plain
 pub mod Standing
+pub mod Using
 pub mod Logging
 pub mod State
+pub mod Serving
 pub mod Fault
 pub mod Output
 pub mod Replay

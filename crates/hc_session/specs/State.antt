@@ -1,29 +1,35 @@
 -- The objects that commands change, how they are kept, and what each command does to them.
-use Rattle.std.specs.Prelude.{◌≡◌, ◌≢◌, ◌↔◌, ◌⊎◌, ⊤, ℕ, Bool, IsTrue, List, [], ◌∷◌, ◌++◌, None}
+use Rattle.std.specs.Prelude.{◌≡◌, ◌≢◌, ◌↔◌, ◌⊎◌, ⊤, ℕ, Bool, true, if◌then◌else◌, IsTrue, List, [], ◌∷◌, ◌++◌, Option, Some, None}
 use Rattle.hc_board.specs.Trail.{Access}
 use Rattle.hc_value.specs.declared.reply.Reply.{Reply}
 use Rattle.hc_value.specs.declared.reply.Reply.TheVariants.{Flag, Shape as HowKept}
 use Rattle.hc_table.specs.Changes.{Did, Nothing, Moved}
-use Rattle.hc_heap.specs.States.{IsDesk}
+use Rattle.hc_heap.specs.States.{IsDesk, OnlyLoads}
 use Rattle.hc_modes.specs.Admitting.{IsHonest}
-use Rattle.hc_objects.specs.Came.{Came, Moves}
+use Rattle.hc_cells.specs.Cells.{AreCells}
 use Rattle.hc_modes.specs.Meaning.{cause_in}
 use Rattle.hc_modes.specs.Modes.{AreAlike, HaveOneWord, mode_of}
 use Rattle.hc_modes.specs.Rest.{AreCalm}
 use Rattle.hc_modes.specs.State.{ObjectsState, IsObjects}
+use Rattle.hc_objects.specs.Came.{Came}
 use Rattle.hc_commands.specs.declared.command.Command.{Command}
-use Rattle.hc_commands.specs.declared.command.Command.TheVariants.{Keys, Shape, Same, Declare}
+use Rattle.hc_commands.specs.declared.command.Command.TheVariants.{Keys, Shape, Same, Declare, Exec}
+use Rattle.hc_plan.specs.declared.case.Site.{Site}
+use Rattle.hc_access.specs.Accesses.{AskedCell, events_at, note_events, site_at, with_events}
+use Rattle.hc_access.specs.Entries.{is_cached}
 use Rattle.hc_sites.specs.State.{new_site}
 use Rattle.hc_sites.specs.declared.state.SiteState.{SiteState}
 use Rattle.hc_session.specs.Logging.{Logs, lines_since, log_text, mark_of}
-use Rattle.hc_session.specs.Plain.{Answer, AnswersPlainly, IsServed, act_in}
-use Rattle.hc_session.specs.Standing.{Standing, plain_of}
+use Rattle.hc_session.specs.Plain.{Answer, AnswersPlainly, IsServed, act_in, is_access}
+use Rattle.hc_session.specs.Standing.{Standing, plain_of, plain_with}
 use Rattle.hc_session.specs.Tables.{did_in}
+use Rattle.hc_session.specs.Using.{AreReadied, MovesInWant, is_accepted, uses_if}
 
--- words and dictionaries are sound, and stand for the property tables; the words are those that the board's stores say; no map is
--- unstable that a prototype has; and what each field says of values is true of all objects
+-- words and dictionaries are sound, and stand for the property tables; cells are sound; the words are those that the board's stores
+-- say; no map is unstable that a prototype has; and what each field says of values is true of all objects
 pub record Stands {P : Type 0} (objects : ObjectsState P) : Type 0 where
   pub sound : IsObjects objects.heap.view objects.kept objects.of_null
+  pub cells : AreCells objects.heap.view.trail objects.heap.view.used
   pub desk : IsDesk objects.heap.view objects.heap.desk
   pub calm : AreCalm objects.heap.view.trail
   pub honest : IsHonest objects.heap.view.trail
@@ -40,33 +46,71 @@ IsTrueReply objects (Shape o) (HowKept mode) = mode ≡ mode_of objects.heap.vie
 IsTrueReply objects (Same a b) (Flag same) = HaveOneMap objects a b same
 IsTrueReply objects command reply = Unit {0}
 
--- the sites after a command: nothing happened yet at one that is declared
-abbrev pub sites_by : List SiteState → Command → List SiteState
-sites_by sites (Declare op name) = sites ++ new_site (record { op = op; name = name }) ∷ []
-sites_by sites command = sites
+-- the sites after an access that is accepted
+abbrev pub sites_at : {P : Type 0} → ObjectsState P → List SiteState → ℕ → ℕ → Option Site → List SiteState
+sites_at objects sites s o None = sites
+sites_at objects sites s o (Some site) = with_events sites s (events_at objects sites s o site.op site.name)
 
--- what a command that is answered does: it answers as the tables do, and truly of how objects are kept; what became of words,
--- modes, needs and prototypes is what becomes of the one change; the sites are these; and the log goes on
+-- the sites after a command: nothing happened yet at one that is declared, and an access notes its receiver's map and may fill the
+-- inline cache
+abbrev pub sites_by : {P : Type 0} → ObjectsState P → List SiteState → Command → List SiteState
+sites_by objects sites (Declare op name) = sites ++ new_site (record { op = op; name = name }) ∷ []
+sites_by objects sites (Exec s o value) = if is_access (plain_with objects sites) (Exec s o value) then sites_at objects sites s o (site_at sites s) else sites
+sites_by objects sites command = sites
+
+-- and after one that lacked memory then: an access has noted its receiver's map
+abbrev pub sites_in_want : {P : Type 0} → ObjectsState P → List SiteState → Command → List SiteState
+sites_in_want objects sites (Exec s o value) =
+    if is_access (plain_with objects sites) (Exec s o value) then with_events sites s (note_events objects sites s o) else sites
+sites_in_want objects sites command = sites
+
+-- what became of objects, once those that a command uses were migrated: the one change that is made, if any; or an access that is
+-- accepted and makes none asked for a cell, as no other command does
+abbrev pub Became : {P : Type 0} → (P → List Access → List Access → P → Type 0) → Bool → ObjectsState P → Command → Did → ObjectsState P → Type 0
+Became went accepted a (Exec s o value) did b = Came went a did b ⊎ ((accepted ≡ true) × (did ≡ Nothing) × AskedCell went a b)
+Became went accepted a command did b = Came went a did b
+
+-- the objects that a command uses were migrated first, none where it is refused; and then it did what it does
+pub record Used {P : Type 0} (went : P → List Access → List Access → P → Type 0) (a : ObjectsState P) (accepted : Bool) (command : Command) (did : Did) (b : ObjectsState P) : Type 0 where
+  pub ready : ObjectsState P
+  pub readied : AreReadied went a (uses_if accepted command) ready
+  pub done : Became went accepted ready command did b
+
+-- an access that reads is a few loads where the inline cache answers, and nothing is stored: its receiver's map was live
+abbrev pub IsCheap : {P : Type 0} → ObjectsState P → ObjectsState P → List SiteState → Command → ObjectsState P → Type 0
+IsCheap old ready sites (Exec s o None) new =
+    is_access (plain_with ready sites) (Exec s o None) ≡ true → is_cached ready.heap.view.trail sites s o ≡ true
+    → new.heap.desk.trail ≡ old.heap.desk.trail → OnlyLoads 24 old.heap.desk new.heap.desk
+IsCheap old ready sites command new = Unit {0}
+
+-- what a command that is answered does: it answers as the tables do, and truly of how objects are kept; the objects that it uses were
+-- migrated, and then what became of words, modes, needs and prototypes is what becomes of the one change; the sites are these; the
+-- log goes on; and the inline cache's answers are cheap
 pub record Does {P : Type 0} (went : P → List Access → List Access → P → Type 0) (old : Standing P) (command : Command) (answer : Answer) (new : Standing P) : Type 0 where
   pub served : IsServed command
   pub answers : AnswersPlainly (plain_of old) command answer (plain_of new)
-  pub kept : IsTrueReply old.objects command answer.reply
-  pub came : Came went old.objects (did_in (act_in (plain_of old) command)) new.objects
+  pub kept : IsTrueReply new.objects command answer.reply
+  pub used : Used went old.objects (is_accepted (plain_of old) command) command (did_in (act_in (plain_of old) command)) new.objects
   pub stands : Stands new.objects
-  pub sites : new.sites ≡ sites_by old.sites command
-  pub logs : Logs old command new
+  pub sites : new.sites ≡ sites_by used.ready old.sites command
+  pub cheap : IsCheap old.objects used.ready old.sites command new.objects
+  pub logs : Logs old used.ready command new
   pub log_is : answer.log ≡ log_text (lines_since old new)
 
 -- the answer that leads from one state of a session to a later one
 abbrev pub answer_since : {P : Type 0} → Standing P → Reply → Standing P → Answer
 answer_since old reply new = record { log = log_text (lines_since old new); reply = reply }
 
--- what a command did that lacked memory: a list of names only reads
+-- what a command did to tables that lacked memory: a list of names only reads
 abbrev pub did_in_want : Command → Did
 did_in_want (Keys o) = Nothing
-did_in_want (Shape o) = Nothing
-did_in_want (Same a b) = Nothing
 did_in_want command = Moved
+
+-- the sites after a command that lacked memory: as they were; or an access had its receiver migrated, and has noted its map
+abbrev pub NotedInWant : {P : Type 0} → (P → List Access → List Access → P → Type 0) → ObjectsState P → List SiteState → Command → List SiteState → Type 0
+NotedInWant {P} went a sites command now =
+    (now ≡ sites)
+    ⊎ ((ready : ObjectsState P) × AreReadied went a (uses_if (is_accepted (plain_with a sites) command) command) ready × (now ≡ sites_in_want ready sites command))
 
 -- nothing changed
 pub record IsAsBefore {P : Type 0} (old new : Standing P) : Type 0 where
@@ -75,16 +119,17 @@ pub record IsAsBefore {P : Type 0} (old new : Standing P) : Type 0 where
   pub log : new.log ≡ old.log
   pub marks : new.marks ≡ old.marks
 
--- a command got its mark, and then lacked memory: objects moved at most
-pub record HasMark {P : Type 0} (went : P → List Access → List Access → P → Type 0) (old new : Standing P) : Type 0 where
-  pub moves : Moves went old.objects new.objects
-  pub sites : new.sites ≡ old.sites
+-- a command got its mark, and then lacked memory: some of the objects that it uses were migrated, objects moved at most, and an access
+-- may have noted a map
+pub record HasMark {P : Type 0} (went : P → List Access → List Access → P → Type 0) (old : Standing P) (command : Command) (new : Standing P) : Type 0 where
+  pub moves : MovesInWant went old.objects (uses_if (is_accepted (plain_of old) command) command) new.objects
+  pub sites : NotedInWant went old.objects old.sites command new.sites
   pub log : new.log ≡ old.log
   pub mark : new.marks ≡ old.marks ++ mark_of old ∷ []
 
 -- what a command leaves that lacked memory: there was none for its mark and its lines of the log, or it has its mark
-abbrev pub Wants : {P : Type 0} → (P → List Access → List Access → P → Type 0) → Standing P → Standing P → Type 0
-Wants went old new = IsAsBefore old new ⊎ HasMark went old new
+abbrev pub Wants : {P : Type 0} → (P → List Access → List Access → P → Type 0) → Standing P → Command → Standing P → Type 0
+Wants went old command new = IsAsBefore old new ⊎ HasMark went old command new
 
 -- a pace of which nothing is asked
 abbrev pub any_pace : {P : Type 0} → P → List Access → List Access → P → Type 0

@@ -20,7 +20,7 @@ use Rattle.hc_ops.specs.Set.{set_act}
 use Rattle.hc_commands.specs.Numbers.{IsCommandBelow}
 use Rattle.hc_commands.specs.Verbs.{is_built, verb_of_command}
 use Rattle.hc_commands.specs.declared.command.Command.{Command}
-use Rattle.hc_commands.specs.declared.command.Command.TheVariants.{New, Get, Set, Define, Has, Own, Delete, Keys, Proto, SetProto, Extensible, Lock, Seal, Freeze, Shape, Same, Declare}
+use Rattle.hc_commands.specs.declared.command.Command.TheVariants.{New, Get, Set, Define, Has, Own, Delete, Keys, Proto, SetProto, Extensible, Lock, Seal, Freeze, Shape, Same, Declare, Exec}
 
 -- Which objects are there
 
@@ -138,6 +138,7 @@ abbrev pub is_on_tables : Command → Bool
 is_on_tables (Shape o) = false
 is_on_tables (Same a b) = false
 is_on_tables (Declare op name) = false
+is_on_tables (Exec s o value) = false
 is_on_tables command = is_built (verb_of_command command)
 
 abbrev pub IsOnTables : Command → Type 0

@@ -6,6 +6,8 @@ ghost use Rattle.hc_session.specs.Named.{IsNamedWorld};
 ghost use Rattle.hc_objects.specs.Came.{world_of};
 ghost use Rattle.hc_session.specs.Answer.{AnswersCommand, AnswersPartly, LacksMemory};
 ghost use Rattle.hc_session.specs.Plain.{IsServed};
+ghost use Rattle.hc_session.specs.Serving.{AreNamedSites};
+ghost use Rattle.hc_session.specs.Standing.{plain_of};
 
 use crate::render::render_answer;
 use crate::write::write_piece;
@@ -31,11 +33,13 @@ pub fn answer<K: Sink>(
     requires served { IsServed command.now }
     requires names { length names.now ≤ MAX_NAMES }
     requires world { IsNamedWorld (length names.now) (world_of session.old.objects) }
+    requires named { AreNamedSites (length names.now) (plain_of session.old).sites }
     requires command { IsCommandBelow (length names.now) command.now }
     requires sites { length session.old.sites < 2 ^ 32 - 1 }
     ensures ok { OnOk result (AnswersCommand session.old names.now command.now session.new
         (K.taken sink.old) (K.taken sink.new)) }
     ensures world { OnOk result (IsNamedWorld (length names.now) (world_of session.new.objects)) }
+    ensures named { OnOk result (AreNamedSites (length names.now) (plain_of session.new).sites) }
     ensures sites { OnOk result (length session.new.sites ≤ length session.old.sites + 1) }
     ensures memory { IsErrOf result Halt.Memory → K.taken sink.new ≡ K.taken sink.old }
     ensures want { IsErrOf result Halt.Memory → LacksMemory session.old command.now session.new }

@@ -2,6 +2,7 @@
 #![tactic(auto)]
 
 mod answer;
+mod exec;
 mod pace;
 mod perform;
 mod refusal;
@@ -9,6 +10,7 @@ mod render;
 mod replaying;
 mod serve;
 mod session;
+mod using;
 mod write;
 
 pub use pace::Scripted;

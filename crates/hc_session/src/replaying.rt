@@ -11,6 +11,7 @@ use crate::answer::{Halt, answer};
 use crate::refusal::render_refusal;
 use crate::write::write_piece;
 use crate::{Scripted, Session};
+use hc_access::asking_is_little;
 use hc_objects::operations_spend_little;
 use hc_script::laws::{commands_are_named, lines_have_one_meaning};
 use hc_script::{ScriptFault, ScriptReader, Sink, Source, Status, What};
@@ -87,6 +88,7 @@ fn replay_words<S: Source, K: Sink>(
         return end_with(sink, b"! usage\n", Status::BadWords);
     }
     operations_spend_little::<Scripted>();
+    asking_is_little::<Scripted>();
     session.stands();
     let alloc = session.allocator();
     let Ok(mut reader) = ScriptReader::new(alloc) else {
@@ -142,6 +144,7 @@ fn replay_lines<S: Source, K: Sink>(
 {
     commands_are_named();
     operations_spend_little::<Scripted>();
+    asking_is_little::<Scripted>();
     session.stands();
     'commands: loop {
         match reader.next(source) {

@@ -1,17 +1,23 @@
-//! What each command does, to objects or to sites.
-ghost use Rattle.std.specs.Prelude.{◌≡◌, ◌-◌, ◌<◌, ◌≤◌, ◌^◌, [], ◌∷◌, ◌++◌, length, IfOk, OnOk, OnErr};
-ghost use Rattle.hc_value.specs.declared.word.TheConstants.{NUMBER_LIMIT};
-ghost use Rattle.hc_sites.specs.State.{new_site};
-ghost use Rattle.hc_objects.specs.Came.{Came, Moves};
-ghost use Rattle.hc_session.specs.Plain.{AnswersPlainly, HasSiteNumber, IsServed, act_in};
-ghost use Rattle.hc_session.specs.Standing.{plain_with};
-ghost use Rattle.hc_session.specs.State.{IsTrueReply, sites_by};
-ghost use Rattle.hc_session.specs.Tables.{HasNumbers, did_in};
+//! What each command does, to objects, to sites and to the log.
+ghost use Rattle.std.specs.Prelude.{◌≡◌, ◌-◌, ◌<◌, ◌≤◌, ◌^◌, ℕ, List, false, length, IfOk, OnErr};
+ghost use Rattle.hc_value.specs.declared.word.TheConstants.{NUMBER_LIMIT, TEXT_LIMIT};
+ghost use Rattle.hc_access.specs.Entries.{AreGood};
+ghost use Rattle.hc_report.specs.declared.line.Line.{Line};
+ghost use Rattle.hc_commands.specs.declared.command.Command.TheVariants.{Declare};
+ghost use Rattle.hc_session.specs.Plain.{HasSiteNumber, IsServed, is_of_sites};
+ghost use Rattle.hc_session.specs.Serving.{AreNamedSites, Serves};
+ghost use Rattle.hc_session.specs.Standing.{plain_with, tables_of};
+ghost use Rattle.hc_session.specs.State.{NotedInWant};
+ghost use Rattle.hc_session.specs.Tables.{HasNumbers, all_there};
+ghost use Rattle.hc_session.specs.Using.{MovesInWant, is_accepted, uses_if};
 
+use crate::exec::exec;
 use crate::perform::perform;
+use hc_access::entries_stay_good;
 use hc_heap::Pace;
 use hc_objects::Objects;
 use hc_plan::{Op, Site};
+use hc_report::Log;
 use hc_script::Command;
 use hc_sites::Sites;
 use hc_value::{Memory, Reply};
@@ -21,6 +27,7 @@ use std::alloc::Global;
 pub fn serve<P: Pace>(
     objects: &mut Objects<P>,
     sites: &mut Sites,
+    log: &mut Log,
     command: &Command,
     alloc: Global,
 ) -> Result<Reply, Memory>
@@ -28,27 +35,64 @@ pub fn serve<P: Pace>(
     requires numbers { HasNumbers command.now }
     requires room { HasSiteNumber (length sites.old) command.now }
     requires few { objects.old.heap.view.shape.objects ≤ NUMBER_LIMIT }
-    ensures answers { IfOk result (λ reply. AnswersPlainly (plain_with objects.old sites.old) command.now
-        (record { log = []; reply = reply }) (plain_with objects.new sites.new)) }
-    ensures kept { IfOk result (λ reply. IsTrueReply objects.old command.now reply) }
-    ensures came { OnOk result (Came P.went objects.old (did_in (act_in (plain_with objects.old sites.old) command.now)) objects.new) }
-    ensures sites { OnOk result (sites.new ≡ sites_by sites.old command.now) }
-    ensures moves { OnErr result (Moves P.went objects.old objects.new) }
-    ensures same { OnErr result (sites.new ≡ sites.old) }
+    requires names { AreNamedSites TEXT_LIMIT (plain_with objects.old sites.old).sites }
+    requires good { AreGood objects.old sites.old }
+    requires line { 0 < log.old.room }
+    ensures serves { IfOk result (λ reply. Serves P.went objects.old sites.old log.old.lines command.now reply
+        objects.new sites.new log.new.lines) }
+    ensures wants { OnErr result (MovesInWant P.went objects.old (uses_if (is_accepted (plain_with objects.old sites.old) command.now) command.now)
+        objects.new) }
+    ensures noted { OnErr result (NotedInWant P.went objects.old sites.old command.now sites.new) }
+    ensures quiet { OnErr result (log.new.lines ≡ log.old.lines) }
+    ensures good { AreGood objects.new sites.new }
     ensures limit { objects.new.heap.view.shape.objects ≡ objects.old.heap.view.shape.objects }
 {
     match command {
-        Command::Declare(op, name) => declare(sites, *op, *name),
-        _ => perform(objects, command, alloc),
+        Command::Declare(op, name) => declare(objects, sites, *op, *name),
+        Command::Exec(s, o, value) => exec(objects, sites, log, *s, *o, *value),
+        _ => serve_objects(objects, sites, command, alloc),
     }
 }
 
+// Performs a command on objects. What inline caches say stays true.
+fn serve_objects<P: Pace>(
+    objects: &mut Objects<P>,
+    sites: &Sites,
+    command: &Command,
+    alloc: Global,
+) -> Result<Reply, Memory>
+    requires served { IsServed command.now }
+    requires objects { is_of_sites command.now ≡ false }
+    requires numbers { HasNumbers command.now }
+    requires few { objects.old.heap.view.shape.objects ≤ NUMBER_LIMIT }
+    requires good { AreGood objects.old sites.now }
+    ensures serves { IfOk result (λ reply. (log : List (ℕ × Line)) → Serves P.went objects.old sites.now log command.now reply
+        objects.new sites.now log) }
+    ensures wants { OnErr result (MovesInWant P.went objects.old (uses_if (all_there (tables_of objects.old) command.now) command.now)
+        objects.new) }
+    ensures good { AreGood objects.new sites.now }
+    ensures limit { objects.new.heap.view.shape.objects ≡ objects.old.heap.view.shape.objects }
+{
+    entries_stay_good::<P>();
+    objects.stands();
+    let reply = perform(objects, command, alloc);
+    objects.stands();
+    reply
+}
+
 // Declares a site that reads or writes a property of this name.
-fn declare(sites: &mut Sites, op: Op, name: u32) -> Result<Reply, Memory>
+fn declare<P: Pace>(
+    objects: &Objects<P>,
+    sites: &mut Sites,
+    op: Op,
+    name: u32,
+) -> Result<Reply, Memory>
     requires room { length sites.old < 2 ^ 32 - 1 }
-    ensures reply { IfOk result (λ reply. reply ≡ Reply.Site (length sites.old)) }
-    ensures ok { OnOk result (sites.new ≡ sites.old ++ new_site (record { op = op; name = name }) ∷ []) }
-    ensures err { OnErr result (sites.new ≡ sites.old) }
+    requires good { AreGood objects.now sites.old }
+    ensures serves { IfOk result (λ reply. (log : List (ℕ × Line)) → Serves P.went objects.now sites.old log (Declare op name) reply
+        objects.now sites.new log) }
+    ensures same { OnErr result (sites.new ≡ sites.old) }
+    ensures good { AreGood objects.now sites.new }
 {
     Ok(Reply::Site(sites.declare(Site { op, name })?))
 }

@@ -1,4 +1,4 @@
-ghost use Rattle.std.specs.Prelude.{◌≡◌, [], ◌∷◌, ◌++◌, true, false, length, IfOk, OnOk, OnErr};
+ghost use Rattle.std.specs.Prelude.{◌≡◌, ◌<◌, [], ◌∷◌, ◌++◌, true, false, length, IfOk, OnOk, OnErr};
 ghost use Rattle.hc_layout.specs.Shape.{IsShape};
 ghost use Rattle.hc_modes.specs.Admitting.{ConstantsStay};
 ghost use Rattle.hc_session.specs.Fresh.{IsNew};
@@ -9,9 +9,11 @@ ghost use Rattle.hc_session.specs.Tables.{HasNumbers};
 
 use crate::Scripted;
 use crate::serve::serve;
+use hc_access::entries_stay_good;
+use hc_facts::constants_stay_on;
 use hc_heap::Pace;
 use hc_layout::{Region, Shape};
-use hc_objects::{Objects, fields_stay_honest, prototypes_stay_calm};
+use hc_objects::{Objects, cells_stand_alone, fields_stay_honest, prototypes_stay_calm};
 use hc_report::{Log, Mark, Marks};
 use hc_script::Command;
 use hc_sites::Sites;
@@ -51,6 +53,7 @@ impl Session<Scripted> {
         ensures fresh { IfOk result (λ session. session.fresh ≡ true) }
     {
         fields_stay_honest::<Scripted>();
+        entries_stay_good::<Scripted>();
         Ok(Session {
             objects: Objects::new(alloc, shape, Scripted)?,
             sites: Sites::new(alloc),
@@ -71,42 +74,34 @@ impl<P: Pace> Session<P> {
         self.fresh
     }
 
-    /// Performs a command. After want of memory the tables are as they were; how they are kept may have moved.
+    /// Performs a command. After want of memory the tables are as they were; how they are kept may have moved, and an access of a
+    /// site may have noted a map there.
     pub fn command(&mut self, command: &Command) -> Result<Reply, Memory>
         requires served { IsServed command.now }
         requires numbers { HasNumbers command.now }
         requires room { HasSiteNumber (length self.old.sites) command.now }
         ensures done { IfOk result (λ reply. Does P.went self.old command.now (answer_since self.old reply self.new) self.new) }
-        ensures wants { OnErr result (Wants P.went self.old self.new) }
+        ensures wants { OnErr result (Wants P.went self.old command.now self.new) }
         ensures stands { Stands self.new.objects }
         ensures constants { ConstantsStay self.old.objects.heap.view.trail self.new.objects.heap.view.trail }
         ensures fresh { self.new.fresh ≡ false }
     {
         prototypes_stay_calm::<P>();
         fields_stay_honest::<P>();
+        cells_stand_alone::<P>();
+        constants_stay_on();
         self.objects.stands();
         self.fresh = false;
-        self.put_mark()?;
-        let reply = serve(&mut self.objects, &mut self.sites, command, self.alloc);
+        put_mark(&self.objects, &self.sites, &mut self.log, &mut self.marks)?;
+        let reply = serve(
+            &mut self.objects,
+            &mut self.sites,
+            &mut self.log,
+            command,
+            self.alloc,
+        );
         self.objects.stands();
         reply
-    }
-
-    // Takes the memory for all that a command may put into the log, a line for each site and one of its own, and puts its mark.
-    fn put_mark(&mut self) -> Result<(), Memory>
-        requires begun { self.old.fresh ≡ false }
-        ensures ok { OnOk result (self.new ≡ record self.old { marks = self.old.marks ++ mark_of self.old ∷ [] }) }
-        ensures err { OnErr result (self.new ≡ self.old) }
-    {
-        self.log.reserve(u64::from(self.sites.len()) + 1)?;
-        let mark = Mark {
-            at: self.objects.writes(),
-            met: self.objects.met(),
-            lines: self.log.len(),
-            slots: self.objects.used(Region::Slots),
-        };
-        self.marks.push(mark)?;
-        Ok(())
     }
 
     /// How many sites were declared.
@@ -143,4 +138,28 @@ impl<P: Pace> Session<P> {
     pub(crate) fn allocator(&self) -> Global {
         self.alloc
     }
+}
+
+// Takes the memory for all that a command may put into the log, a line for each site and one of its own, and puts its mark.
+fn put_mark<P: Pace>(
+    objects: &Objects<P>,
+    sites: &Sites,
+    log: &mut Log,
+    marks: &mut Marks,
+) -> Result<(), Memory>
+    ensures ok { OnOk result (marks.new ≡ marks.old
+        ++ mark_of (record { objects = objects.now; sites = sites.now; log = log.old.lines; marks = marks.old; fresh = false }) ∷ []) }
+    ensures room { OnOk result (0 < log.new.room) }
+    ensures err { OnErr result (marks.new ≡ marks.old) }
+    ensures lines { log.new.lines ≡ log.old.lines }
+{
+    log.reserve(u64::from(sites.len()) + 1)?;
+    let mark = Mark {
+        at: objects.writes(),
+        met: objects.met(),
+        lines: log.len(),
+        slots: objects.used(Region::Slots),
+    };
+    marks.push(mark)?;
+    Ok(())
 }

@@ -161,3 +161,48 @@ fn a_small_shape_runs_out_of_room(rt: HostRuntime) -> Result<(), Fail> {
     }
     Ok(())
 }
+
+// What is done with objects whose map is deprecated, as long as there is room for one map, and what isn't: a refusal, and an object
+// that is given as a value. The last object takes that room, and those that weren't migrated by then become slow.
+const USED: &str =
+    "new null\nset #0 x 1\nnew null\nset #1 x 5\nnew null\nset #2 x 5\nnew null\nset #3 x 5\nnew null\nset #4 x 5\nnew null\nset #5 x 5\nnew null\nset #6 x 5\nnew null\nset #7 x 5\nnew null\nset #8 x 5\nnew null\nset #9 x 5\nnew null\nset #10 x 5\nnew null\nset #11 x 5\nnew null\nset #12 x 5\nnew null\nset #13 x 5\nnew null\nset #14 x 5\nnew null\nset #15 x 5\nnew null\nset #16 x 5\nnew null\nsite load y\nset #0 x 5000000000\nsame #15 #99\nexec 0 #16 1\nget #1 x\nhas #2 y\nown #3 y\nkeys #4\nproto #5\nextensible #6\nsame #7 #8\nset #9 x 5\ndefine #10 x value=5\ndelete #11 y\nsetproto #12 null\nexec 0 #13\nset #17 o #14\nshape #1\nshape #2\nshape #3\nshape #4\nshape #5\nshape #6\nshape #7\nshape #8\nshape #9\nshape #10\nshape #11\nshape #12\nshape #13\nshape #14\nshape #15\nshape #16\nshape #17\n";
+
+const ANSWERED: &str =
+    "= #0\n= true\n= #1\n= true\n= #2\n= true\n= #3\n= true\n= #4\n= true\n= #5\n= true\n= #6\n= true\n= #7\n= true\n= #8\n= true\n= #9\n= true\n= #10\n= true\n= #11\n= true\n= #12\n= true\n= #13\n= true\n= #14\n= true\n= #15\n= true\n= #16\n= true\n= #17\n= site 0\n= true\n= no object\n= wrong site\n= 5\n= false\n= undefined\n= [x]\n= null\n= true\n= true\n= true\n= true\n= true\n= true\n~ slow 0\n= undefined\n= true\n= fast 1\n= fast 1\n= fast 1\n= fast 1\n= fast 1\n= fast 1\n= fast 1\n= fast 1\n= fast 1\n= fast 1\n= fast 1\n= fast 1\n= fast 1\n= slow space\n= slow space\n= slow space\n= fast 1\n";
+
+// What a migration, or a field that outgrows its layout, finds no room for.
+#[test]
+fn a_migration_may_find_no_room(rt: HostRuntime) -> Result<(), Fail> {
+    let roomy = Shape {
+        maps: 4,
+        entries: 100,
+        fields: 100,
+        links: 100,
+        objects: 100,
+        slots: 100,
+        cells: 100,
+    };
+    let cases = [
+        (
+            Shape { maps: 2, ..roomy },
+            whole(
+                "new null\nset #0 x 1\nset #0 x 5000000000\nshape #0\nget #0 x\n",
+                "= #0\n= true\n= true\n= slow space\n= 5000000000\n",
+                Status::Done,
+            ),
+        ),
+        (
+            Shape { maps: 3, ..roomy },
+            whole(
+                "new null\nset #0 x 1\nnew null\nset #1 x 5\nset #0 x 5000000000\nget #1 x\nshape #1\nshape #0\n",
+                "= #0\n= true\n= #1\n= true\n= true\n= 5\n= slow space\n= fast 1\n",
+                Status::Done,
+            ),
+        ),
+        (roomy, whole(USED, ANSWERED, Status::Done)),
+    ];
+    for (shape, case) in &cases {
+        check(&rt, rt.alloc(), *shape, case)?;
+    }
+    Ok(())
+}

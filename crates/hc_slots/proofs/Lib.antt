@@ -6,3 +6,4 @@ pub mod Reading
 pub mod Fetching
 pub mod Named
 pub mod Unmoved
+pub mod Rewritten

@@ -4,3 +4,4 @@ pub mod Meaning
 pub mod Fast
 pub mod Slots
 pub mod Entries
+pub mod Anew

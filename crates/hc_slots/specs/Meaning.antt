@@ -1,5 +1,5 @@
 -- What the words of an object with a map, and the dictionary of a slow one, say of it.
-use Rattle.std.specs.Prelude.{◌≡◌, ◌≢◌, ◌⊎◌, ℕ, Bool, true, not, Option, Some, None, List}
+use Rattle.std.specs.Prelude.{◌≡◌, ◌≢◌, ◌⊎◌, ℕ, Bool, true, not, IsTrue, Option, Some, None, List}
 use Rattle.hc_layout.specs.declared.words.GateWord.{GateWord}
 use Rattle.hc_value.specs.declared.value.Value.{Value}
 use Rattle.hc_value.specs.declared.value.Value.TheVariants.{Undefined}
@@ -14,6 +14,7 @@ use Rattle.hc_value.specs.declared.prop.Held.TheVariants.{Datum, Pair}
 use Rattle.hc_value.specs.declared.prop.Kind.{Kind}
 use Rattle.hc_value.specs.declared.prop.Kind.TheVariants.{DataProp, AccessorProp}
 use Rattle.hc_value.specs.declared.prop.Prop.{Prop}
+use Rattle.hc_value.specs.Field.{is_within, rep_of}
 use Rattle.hc_value.specs.Word.{unwide_of, untagged_of, unpair_of, integer_of}
 use Rattle.hc_heap.specs.Writes.{Trail}
 use Rattle.hc_heap.specs.Readings.{gate_in, prototype_in}
@@ -44,6 +45,14 @@ held_in DataProp Wide w = datum_of (integer_of (unwide_of w))
 held_in DataProp Smi w = datum_of (untagged_of w)
 held_in DataProp HeapObject w = datum_of (untagged_of w)
 held_in DataProp Tagged w = datum_of (untagged_of w)
+
+-- a field of this representation can hold so much: a wide one integers alone
+abbrev pub MayHold : Rep → Held → Type 0
+MayHold Wide (Datum v) = IsTrue (is_within (rep_of v) Wide)
+MayHold Wide (Pair getter setter) = Unit {0}
+MayHold Smi held = Unit {0}
+MayHold HeapObject held = Unit {0}
+MayHold Tagged held = Unit {0}
 
 -- the constness that a field of a constness is asked for, where so much is held and this is to be: a constant field stays so
 -- exactly where this is held already

@@ -12,7 +12,7 @@ use hc_heap::{Heap, Pace, gates_are_open, unused_says_nothing};
 use hc_value::{Constness, Detail, Held, Key, Prop};
 
 // What a map's k-th entry says: its key, and what its field admits.
-fn entry_of<P: Pace>(h: &mut Heap<P>, map: u32, k: u32) -> (Key, Detail)
+pub(crate) fn entry_of<P: Pace>(h: &mut Heap<P>, map: u32, k: u32) -> (Key, Detail)
     requires entry { IsSomeAnd (gate_in h.old.view.trail map) (λ g. k < g.entries) }
     ensures key { key_at h.old.view.trail map k ≡ Some result.0 }
     ensures detail { detail_at h.old.view.trail map k ≡ Some result.1 }

@@ -1,6 +1,7 @@
 //! The slots of objects, and reads of objects that have a map: what works on the heap alone, beside the tree of maps.
 #![tactic(auto)]
 
+mod anew;
 mod dictionary;
 mod entries;
 pub mod fast;
@@ -8,6 +9,7 @@ mod held;
 mod slots;
 mod stores;
 
+pub use anew::move_slots;
 pub use dictionary::dictionary_of;
 pub use entries::constness_for;
 pub use held::held_word;

@@ -1,18 +1,16 @@
--- The arrays of maps: a new one, and those that stay while a new map is filled; and details that aren't wide.
-use Rattle.std.proofs.Common.{◌≡◌, ℕ, ◌+◌, ◌<◌, Bool, true, false, cond, Option, Some, None, ◌∷◌, refl, sym, ap, ◌∙◌, subst, arith, eqb, eqb-true}
+-- The arrays of maps: a new one, and those that stay while a new map is filled.
+use Rattle.std.proofs.Common.{◌≡◌, ℕ, ◌+◌, ◌<◌, Bool, true, false, cond, Option, Some, ◌∷◌, refl, sym, ap, ◌∙◌, subst, arith, eqb, eqb-true}
 use Rattle.std.proofs.lemmas.Bool.Decides.{nat_tests}
 use Rattle.hc_layout.specs.Capacity.{cap_of}
 use Rattle.hc_layout.specs.declared.words.ArrayWord.{ArrayWord}
-use Rattle.hc_value.specs.declared.field.Detail.{Detail}
 use Rattle.hc_heap.specs.Writes.{Trail, Write, Base, Array, EntryKey, Reference, Owner, FieldDetail}
 use Rattle.hc_heap.specs.Readings.{no_array, base_in, array_in, entry_key_in, reference_in}
 use Rattle.hc_heap.specs.Kept.{Adds}
 use Rattle.hc_heap.specs.Frames.{same-after}
 use Rattle.hc_heap.specs.States.{AreArraysThere}
-use Rattle.hc_descs.specs.Entries.{AreFree, field_at}
+use Rattle.hc_descs.specs.Entries.{AreFree}
 use Rattle.hc_descs.specs.Copies.{array_for, own_array, HasArray, HasOwnArray}
-use Rattle.hc_tree.specs.Tree.{AreNarrow, IsNarrow}
-use Rattle.hc_tree.specs.Copying.{FillsCopy, detail_of, detail_at}
+use Rattle.hc_tree.specs.Copying.{FillsCopy}
 
 -- the array of some entries
 pub array-some : (n : ℕ) → 0 < n → array_for n ≡ own_array (cap_of n)
@@ -99,13 +97,3 @@ module _ (c e f m : ℕ) (apart : c ≡ m → ⊥) where
               field = same-after (λ (t : Trail). reference_in t (x + k)) (reference-step (x + k) before) adds ∙ free.field;
             };
       }
-
--- Details that aren't wide
-
--- the detail of an entry's field
-pub narrow-at : (t : Trail) (m k : ℕ) (d : Detail) → AreNarrow t → detail_at t m k ≡ Some d → IsNarrow d
-narrow-at t m k d narrow is = by (field_at t m k) is
-  where
-    by : (o : Option ℕ) → detail_of t o ≡ Some d → IsNarrow d
-    by (Some f) e = narrow f d e
-    by None e = let n : ⊥ = cc in absurd n

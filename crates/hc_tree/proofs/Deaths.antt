@@ -35,6 +35,7 @@ IsGone t l = IfSome (link_child_in t l) (λ c. IsTrue (bits_in t c).deprecated)
 pub record Dying (old now : View) (m : ℕ) (at : Option ℕ) : Type 0 where
   pub view : now ≡ record old { trail = now.trail }
   pub writes : Adds (Deprecates old.trail m) old.trail now.trail
+  pub still : links_in old.trail m ≡ [] → now.trail ≡ old.trail
   pub tree : IsTree now.trail
   pub heap : IsHeap now
   pub before : List ℕ
@@ -57,6 +58,7 @@ pub dying-none : LinksAreChained → (v : View) (m : ℕ) → IsHeap v → IsTre
 dying-none law v m heap tree = record {
   view = refl;
   writes = adds-none v.trail;
+  still = λ none. refl;
   tree = tree;
   heap = heap;
   before = [];
@@ -173,6 +175,7 @@ module _ (maps : MapsAreKept) (old now : View) (m : ℕ) (g : GateWord) (l : ℕ
   dying-more set w dead = record {
     view = dead.view ∙ ap (λ (v : View). record v { trail = w.trail }) it.view;
     writes = adds-on it.writes (adds-wider deprecates-more dead.writes);
+    still = λ none. let there = subst (λ (ls : List ℕ). Contains ls l) none is-link in let below = there.1 in absurd (omega (arith, below));
     tree = dead.tree;
     heap = dead.heap;
     before = it.before ++ (l ∷ []);
@@ -263,6 +266,7 @@ module _ (maps : MapsAreKept) (old now : View) (m : ℕ) (g : GateWord) (gate : 
       (λ n k e a. array-kept now.trail (Bits m dead_bits ∷ now.trail) n k.entries refl refl (λ x. refl) (λ x. refl) a) it.tree in
       subst (λ (x : View). IsDeprecated old x m) (sym is) (record {
         view = ap (λ (v : View). record v { trail = Bits m dead_bits ∷ now.trail }) it.view;
+        alone = λ none. ap (λ (t : Trail). Bits m dead_bits ∷ t) (it.still none);
         writes = adds-on it.writes (adds-one now.trail (Bits m dead_bits) (record { depth = 0; leads = refl }, refl));
         dead = ap (λ (b : MapBits). b.deprecated) (bits-self now.trail m dead_bits);
         tree = tree;

@@ -1,6 +1,6 @@
 -- A child that is made in place of a live one, which dies with all maps under it.
-use Rattle.std.proofs.Common.{◌≡◌, ℕ, zero, suc, ◌<◌, ◌∷◌, Bool, true, false, cond, Option, Some, None, IsSome, refl, sym, ap, ◌∙◌, subst, inr, true≢false}
-use Rattle.std.specs.Prelude.{IsTrue, IsSomeAnd, All}
+use Rattle.std.proofs.Common.{◌≡◌, ℕ, zero, suc, ◌<◌, ◌∷◌, Bool, true, false, cond, eqb, eqb-true, Option, Some, None, IsSome, refl, sym, ap, ◌∙◌, subst, inl, inr, true≢false}
+use Rattle.std.specs.Prelude.{◌⊎◌, IsTrue, IsSomeAnd, All}
 use Rattle.hc_layout.specs.declared.shape.Shape.{Shape}
 use Rattle.hc_layout.specs.declared.words.GateWord.{GateWord}
 use Rattle.hc_layout.specs.declared.words.MapBits.{MapBits}
@@ -23,7 +23,7 @@ use Rattle.hc_tree.specs.Tree.{gate_with, IsChildFor, IsDeadFor, IsTree}
 use Rattle.hc_tree.specs.Details.{Reshapes, child_detail, detail_at, joined_with, joins_in_place}
 use Rattle.hc_tree.specs.Growth.{MakesMap, MayGrow, asked_detail, fit_of, fitting_child, live_child, marked}
 use Rattle.hc_tree.specs.Walking.{above, ancestor, parent_of}
-use Rattle.hc_tree.specs.Dying.{Deprecates, IsDeprecated, IsOutgrown, IsUnder, MayDie, OutgrownFor}
+use Rattle.hc_tree.specs.Dying.{Deprecates, IsDead, IsDeprecated, IsOutgrown, IsUnder, MarksOnly, MayDie, OutgrownFor}
 use Rattle.hc_tree.specs.Frames.{dies-same, kept-after}
 use Rattle.hc_tree.proofs.Joins.{IsFound, found-at}
 use Rattle.hc_tree.proofs.Keeping.{SameLives, child-kept, same-lives}
@@ -44,6 +44,43 @@ ancestor-same a b same (suc d) c = ap (above b) (ancestor-same a b same d c) ∙
 not-fit : (b : Bool) (c : ℕ) → cond b (Some c) None ≡ None → b ≡ false
 not-fit true c is = let n : ⊥ = cc in absurd n
 not-fit false c is = refl
+
+-- Maps that became unstable
+
+inner : (a b : ℕ) → Some a ≡ Some b → a ≡ b
+inner a b e = cc
+
+-- a map that is unstable is this one, or a dead one of a kind
+abbrev Marked : ℕ → (ℕ → Type 0) → ℕ → Trail → Type 0
+Marked m D x t = IsTrue (bits_in t x).unstable → (x ≡ m) ⊎ IsDead D t x
+
+-- by the writes that make a map, only its parent
+pub marks-made : (D : ℕ → Type 0) (used : Shape) (m x : ℕ) (a b : Trail) → Adds (MakesMap used (Some m)) a b → (IsTrue (bits_in a x).unstable → (x ≡ m) ⊎ IsDead D a x) → IsTrue (bits_in b x).unstable → (x ≡ m) ⊎ IsDead D b x
+marks-made D used m x a b adds = kept-after (Marked m D x) step adds
+  where
+    by : (t : Trail) (i : ℕ) (y : MapBits) (test : Bool) → eqb i x ≡ test → m ≡ i → Marked m D x t → IsTrue (cond test y (bits_in t x)).unstable → (x ≡ m) ⊎ (D x × IsTrue (cond test y (bits_in t x)).deprecated)
+    by t i y true is at before now = inl (sym (eqb-true i x is) ∙ sym at)
+    by t i y false is at before now = before now
+
+    step : (t : Trail) (w : Write) → MakesMap used (Some m) t w → Marked m D x t → Marked m D x (w ∷ t)
+    step t (Bits i y) e before = λ now. by t i y (eqb i x) refl (inner m i e.0) before now
+    step t _ e before = λ now. before now
+
+-- by a death, only those that died
+pub marks-died : (D : ℕ → Type 0) (top : Trail) (child m x : ℕ) (a b : Trail) → ((c : ℕ) → IsUnder top child c → D c) → Adds (Deprecates top child) a b → (IsTrue (bits_in a x).unstable → (x ≡ m) ⊎ IsDead D a x) → IsTrue (bits_in b x).unstable → (x ≡ m) ⊎ IsDead D b x
+marks-died D top child m x a b under adds = kept-after (Marked m D x) step adds
+  where
+    by : (t : Trail) (i : ℕ) (y : MapBits) (test : Bool) → eqb i x ≡ test → D i → IsTrue y.deprecated → Marked m D x t → IsTrue (cond test y (bits_in t x)).unstable → (x ≡ m) ⊎ (D x × IsTrue (cond test y (bits_in t x)).deprecated)
+    by t i y true is here dead before now = inr (subst D (eqb-true i x is) here, dead)
+    by t i y false is here dead before now = before now
+
+    step : (t : Trail) (w : Write) → Deprecates top child t w → Marked m D x t → Marked m D x (w ∷ t)
+    step t (Bits i y) e before = λ now. by t i y (eqb i x) refl (under i e.0) (ap (λ (b : MapBits). b.deprecated) e.1) before now
+    step t _ e before = absurd e
+
+-- a child alone was made
+pub marks-alone : (D : ℕ → Type 0) (used : Shape) (m : ℕ) (a b : Trail) → Adds (MakesMap used (Some m)) a b → MarksOnly m D a b
+marks-alone D used m a b adds = λ x stable now. marks-made D used m x a b adds (λ was. absurd (true≢false (sym was ∙ stable))) now
 
 -- the map was made unstable
 module _ (maps : MapsAreKept) (v u : View) (m child : ℕ) (key : Key) (heap : IsHeap v) (found : IsFound v.trail m child key) (marks : u ≡ record v { trail = marked v.trail m }) (heap_u : IsHeap u) where
@@ -132,6 +169,13 @@ module _ (maps : MapsAreKept) (v u : View) (m child : ℕ) (key : Key) (heap : I
         wide t (Bits x b) e =
             inr (under x (record { depth = e.0.depth; leads = sym (ancestor-same v.trail u.trail (λ y. to-u (λ (t : Trail). parent_in t y) (λ t c b. refl)) e.0.depth x) ∙ e.0.leads }), ap (λ (y : MapBits). y.deprecated) e.1)
         wide t _ e = absurd e
+
+    -- the maps that are unstable once a child is made
+    pub marks-instead : (D : ℕ → Type 0) (used : Shape) (x : View) → ((y : ℕ) → IsUnder v.trail child y → D y) → Adds (MakesMap used (Some m)) w.trail x.trail → MarksOnly m D v.trail x.trail
+    marks-instead D used x under made = λ y stable now.
+        marks-made D used m y w.trail x.trail made
+        (marks-died D u.trail child m y u.trail w.trail (λ c e. under c (record { depth = e.depth; leads = sym (ancestor-same v.trail u.trail (λ z. to-u (λ (t : Trail). parent_in t z) (λ t i b. refl)) e.depth c) ∙ e.leads })) dies.writes
+        (subst (λ (t : Trail). IsTrue (bits_in t y).unstable → (y ≡ m) ⊎ IsDead D t y) (sym trail-u) (marks-made D v.used m y v.trail (marked v.trail m) (marked-writes v.used v.trail m) (λ was. absurd (true≢false (sym was ∙ stable)))))) now
 
 -- What is outgrown
 

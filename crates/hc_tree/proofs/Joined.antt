@@ -1,5 +1,5 @@
 -- The fields of a map, joined one after another with those of another map.
-use Rattle.std.proofs.Common.{◌≡◌, ◌≢◌, ℕ, ◌+◌, ◌<◌, ◌≤◌, true, false, Option, Some, None, refl, sym, ap, ◌∙◌, subst, arith, IsSome}
+use Rattle.std.proofs.Common.{◌≡◌, ◌≢◌, ℕ, ◌+◌, ◌<◌, ◌≤◌, false, Option, Some, None, refl, sym, ap, ◌∙◌, subst, arith, IsSome}
 use Rattle.std.specs.Prelude.{IsSomeAnd}
 use Rattle.hc_layout.specs.declared.shape.Shape.{Shape}
 use Rattle.hc_layout.specs.declared.words.GateWord.{GateWord}
@@ -14,12 +14,11 @@ use Rattle.hc_heap.specs.States.{View, IsHeap}
 use Rattle.hc_descs.specs.Entries.{field_at}
 use Rattle.hc_fields.specs.Fields.{raised}
 use Rattle.hc_tree.specs.Kept.{MapsAreKept, MapsStay}
-use Rattle.hc_tree.specs.Tree.{AreNarrow, IsTree, gate_with}
+use Rattle.hc_tree.specs.Tree.{IsTree, gate_with}
 use Rattle.hc_tree.specs.Growth.{live_child}
-use Rattle.hc_tree.specs.Details.{NoMap, Reshapes, WritesDetails, detail_of, detail_at, fits_at, joined_with}
+use Rattle.hc_tree.specs.Details.{NoMap, Reshapes, WritesDetails, detail_of, detail_at, joined_with}
 use Rattle.hc_tree.specs.Walking.{AreJoined, GetsJoin, both_details, joined_at}
-use Rattle.hc_tree.proofs.Arrays.{narrow-at}
-use Rattle.hc_tree.proofs.Joins.{Raised, live-same, narrow-joins, raised-case, raised-writes}
+use Rattle.hc_tree.proofs.Joins.{Raised, live-same, raised-case, raised-writes}
 use Rattle.hc_tree.proofs.Opening.{cond-other, same-or}
 
 pub joined-none : (v : View) (end m stop count n : ℕ) → IsHeap v → IsTree v.trail → AreJoined v v end m stop count n 0
@@ -47,17 +46,9 @@ at-other : (t : Trail) (f : ℕ) (d : Detail) (x j : ℕ) → (field_at t x j �
 at-other t f d x j other =
     ap (detail_of (raised t f d)) (raised-case (λ (u : Trail). field_at u x j ≡ field_at t x j) t f d refl (λ e is. refl)) ∙ of-other t f d (field_at t x j) other
 
-pub some-detail : (t : Trail) (o : Option ℕ) → IsSomeAnd o (λ f. IsField t f) → IsSome (detail_of t o)
+some-detail : (t : Trail) (o : Option ℕ) → IsSomeAnd o (λ f. IsField t f) → IsSome (detail_of t o)
 some-detail t (Some f) made = made.detail
 some-detail t None made = absurd made
-
--- where no field is wide, all joins are in place
-pub narrow-fits : MapsAreKept → (v : View) (end m count n j : ℕ) → IsHeap v → AreNarrow v.trail → gate_in v.trail end ≡ Some (gate_with count false) → gate_in v.trail m ≡ Some (gate_with n false) → count ≤ n → j < count → fits_at v.trail end m j ≡ true
-narrow-fits law v end m count n j heap narrow at_end at_map within lt =
-    let still = law v.shape v.trail v.trail heap.lawful (goes-still v.shape heap.lawful) in
-    narrow-joins (detail_at v.trail end j) (detail_at v.trail m j) (some-detail v.trail (field_at v.trail end j) ((still.opened end (gate_with count false) at_end).entries.fields j lt))
-    (some-detail v.trail (field_at v.trail m j) ((still.opened m (gate_with n false) at_map).entries.fields j (omega (arith, lt, within))))
-    (λ e is. narrow-at v.trail end j e narrow is) (λ d is. narrow-at v.trail m j d narrow is)
 
 join-both : (o a b : Option Detail) (d : Detail) → IsSome o → o ≡ a → Some d ≡ b → Some (joined_with o d) ≡ both_details a b
 join-both (Some e) a b d some is same = ap (λ (x : Option Detail). both_details (Some e) x) same ∙ ap (λ (x : Option Detail). both_details x b) is

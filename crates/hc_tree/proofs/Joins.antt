@@ -1,5 +1,5 @@
 -- Joins of details, and trails in which details alone rise.
-use Rattle.std.proofs.Common.{◌≡◌, ◌≢◌, ℕ, ◌+◌, Bool, true, false, cond, Option, Some, None, List, [], ◌∷◌, refl, sym, ap, ◌∙◌, subst, arith, IsSome}
+use Rattle.std.proofs.Common.{◌≡◌, ℕ, ◌+◌, Bool, true, false, cond, Option, Some, None, List, [], ◌∷◌, refl, sym, ap, ◌∙◌, subst, arith, IsSome}
 use Rattle.std.specs.Prelude.{IsTrue, IsSomeAnd}
 use Rattle.hc_layout.specs.declared.shape.Shape.{Shape}
 use Rattle.hc_layout.specs.declared.words.ArrayWord.{ArrayWord}
@@ -8,8 +8,6 @@ use Rattle.hc_layout.specs.declared.words.MapBits.{MapBits}
 use Rattle.hc_layout.specs.declared.words.RootWord.{RootWord}
 use Rattle.hc_value.specs.Field.{in_place_of, is_detail_within, join_of, joined_detail}
 use Rattle.hc_value.specs.declared.key.Key.{Key}
-use Rattle.hc_value.specs.declared.field.Rep.{Rep}
-use Rattle.hc_value.specs.declared.field.Rep.TheVariants.{Smi, Wide, HeapObject, Tagged}
 use Rattle.hc_value.specs.declared.field.Detail.{Detail}
 use Rattle.hc_heap.specs.Writes.{Trail, Write, FieldDetail}
 use Rattle.hc_heap.specs.Readings.{gate_in, bits_in, base_in, array_in, entry_key_in, reference_in, owner_in, detail_in, link_key_in, link_child_in, root_in}
@@ -22,36 +20,13 @@ use Rattle.hc_descs.specs.Copies.{HasArray}
 use Rattle.hc_fields.specs.Fields.{raised, raised_from}
 use Rattle.hc_links.specs.Chains.{is_key, links_in, newest_of}
 use Rattle.hc_tree.specs.Kept.{MapsAreKept, MapsStay}
-use Rattle.hc_tree.specs.Tree.{gate_with, IsChildFor, IsNarrow, IsTree}
+use Rattle.hc_tree.specs.Tree.{gate_with, IsChildFor, IsTree}
 use Rattle.hc_tree.specs.Details.{ChildGets, Reshapes, WritesDetails, detail_of, detail_at, joined_with, joins_in_place}
 use Rattle.hc_tree.specs.Growth.{EndsWith, MayGrow, live_of, live_child}
 use Rattle.hc_links.specs.Laws.{SameKeysAreEqual}
 use Rattle.hc_tree.proofs.Begun.{grow-gate}
 use Rattle.hc_tree.proofs.Opened.{live-child}
 use Rattle.hc_tree.proofs.Keeping.{same-lives, SameLives, array-kept, child-kept, tree-kept}
-
--- Joins
-
-pub narrow-place : (a b : Rep) → a ≢ Wide → b ≢ Wide → IsTrue (in_place_of a (join_of a b))
-narrow-place Wide b h k = absurd (h refl)
-narrow-place Smi Wide h k = absurd (k refl)
-narrow-place HeapObject Wide h k = absurd (k refl)
-narrow-place Tagged Wide h k = absurd (k refl)
-narrow-place Smi Smi h k = refl
-narrow-place Smi HeapObject h k = refl
-narrow-place Smi Tagged h k = refl
-narrow-place HeapObject Smi h k = refl
-narrow-place HeapObject HeapObject h k = refl
-narrow-place HeapObject Tagged h k = refl
-narrow-place Tagged Smi h k = refl
-narrow-place Tagged HeapObject h k = refl
-narrow-place Tagged Tagged h k = refl
-
--- what isn't wide joins in place
-pub narrow-joins : (o p : Option Detail) → IsSome o → IsSome p → ((e : Detail) → o ≡ Some e → IsNarrow e) → ((d : Detail) → p ≡ Some d → IsNarrow d) → joins_in_place o p ≡ true
-narrow-joins (Some e) (Some d) there too one other = narrow-place e.rep d.rep (one e refl) (other d refl)
-narrow-joins None p there too one other = let n : ⊥ = cc in absurd n
-narrow-joins (Some e) None there too one other = let n : ⊥ = cc in absurd n
 
 -- A detail that is raised
 

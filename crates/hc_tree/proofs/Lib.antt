@@ -16,8 +16,8 @@ pub mod Joined
 pub mod Walked
 pub mod Got
 pub mod Wants
-pub mod Rooted
 pub mod Owners
 pub mod Deaths
 pub mod Spared
 pub mod Instead
+pub mod Exchanged

@@ -7,7 +7,7 @@ use Rattle.hc_layout.specs.declared.words.GateWord.{GateWord}
 use Rattle.hc_layout.specs.declared.words.MapBits.{MapBits}
 use Rattle.hc_value.specs.declared.key.Key.{Key}
 use Rattle.hc_heap.specs.Writes.{Trail, Bits}
-use Rattle.hc_heap.specs.Readings.{gate_in, parent_in, bits_in, owner_in, link_key_in, link_child_in}
+use Rattle.hc_heap.specs.Readings.{gate_in, parent_in, prototype_in, bits_in, owner_in, link_key_in, link_child_in}
 use Rattle.hc_heap.specs.Lawful.{Lawful}
 use Rattle.hc_heap.specs.Frames.{goes-still}
 use Rattle.hc_heap.specs.States.{View}
@@ -15,8 +15,9 @@ use Rattle.hc_descs.specs.Entries.{field_at, key_at}
 use Rattle.hc_links.specs.Chains.{child_of, is_key, links_in, newest_of}
 use Rattle.hc_links.specs.Laws.{SameKeysAreEqual}
 use Rattle.hc_tree.specs.Kept.{MapsAreKept}
-use Rattle.hc_tree.specs.Tree.{HaveOneLive, IsChildFor, IsDeadFor, IsLedTo, IsSoundLink, IsTree, gate_with}
-use Rattle.hc_tree.specs.Growth.{live_of, live_child}
+use Rattle.hc_tree.specs.Tree.{HaveOneLive, IsChildFor, IsDeadFor, IsLedTo, IsRoot, IsSoundLink, IsTree, gate_with}
+use Rattle.hc_tree.specs.Growth.{live_of, live_child, root_of}
+use Rattle.hc_tree.specs.Walking.{AreRoots}
 use Rattle.hc_tree.specs.Dying.{IsDeprecated, IsOwnerOf}
 use Rattle.hc_tree.specs.Frames.{dies-same}
 use Rattle.hc_tree.proofs.Ended.{parent-first}
@@ -88,6 +89,26 @@ has-parent law s t m k lawful tree gate =
           gate = led.is_open ∙ ap (λ (g : GateWord). Some g) is_gate;
           child = subst (λ (g : GateWord). IsChildFor t q g m it.key) is_gate it.child;
         }
+
+-- The root above a shared map
+
+pub roots : MapsAreKept → (s : Shape) (t : Trail) (of_null : Option ℕ) (n m : ℕ) (p : Option ℕ) → Lawful s t → IsTree t → AreRoots t of_null → gate_in t m ≡ Some (gate_with n false) → prototype_in t m ≡ Some p → (r : ℕ) × ((root_of t p of_null ≡ Some r) × IsRoot t p r)
+roots law s t of_null zero m p lawful tree are gate proto =
+    let q = some-of (parent_in t m) ((law s t t lawful (goes-still s lawful)).opened m (gate_with 0 false) gate).parent in
+    by q.0 q.1
+  where
+    by : (q : Option ℕ) → parent_in t m ≡ Some q → (r : ℕ) × ((root_of t p of_null ≡ Some r) × IsRoot t p r)
+    by None is = (m, (are.named m (gate_with 0 false) p gate refl is proto, record { gate = gate; parent = is; prototype = proto }))
+    by (Some q) is =
+        let led = (tree.maps m (gate_with 0 false) gate).child q is in
+        let it = led-to t q m led.gate tree led.is_open led in
+        let same : gate_with (led.gate.entries + 1) false ≡ gate_with 0 false = same-some (gate_with (led.gate.entries + 1) false) (gate_with 0 false) (gate_in t m) it.child.gate gate in
+        let count : led.gate.entries + 1 ≡ 0 = ap (λ (g : GateWord). g.entries) same in
+        absurd (omega (arith, count))
+roots law s t of_null (suc k) m p lawful tree are gate proto = up (has-parent law s t m k lawful tree gate) (λ (q : ℕ) (is : gate_in t q ≡ Some (gate_with k false)) (named : prototype_in t q ≡ Some p). roots law s t of_null k q p lawful tree are is named)
+  where
+    up : (it : HasParent t m k) → ((q : ℕ) → gate_in t q ≡ Some (gate_with k false) → prototype_in t q ≡ Some p → (r : ℕ) × ((root_of t p of_null ≡ Some r) × IsRoot t p r)) → (r : ℕ) × ((root_of t p of_null ≡ Some r) × IsRoot t p r)
+    up it above = above it.parent it.gate (sym it.child.prototype ∙ proto)
 
 own-field : (t : Trail) (c : ℕ) (o : Option ℕ) → IsSomeAnd o (λ f. owner_in t f ≡ Some c) → (f : ℕ) × ((o ≡ Some f) × (owner_in t f ≡ Some c))
 own-field t c (Some f) h = (f, (refl, h))

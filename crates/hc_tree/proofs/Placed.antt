@@ -1,5 +1,5 @@
 -- The fields of a private copy stand at their places.
-use Rattle.std.proofs.Common.{◌≡◌, ℕ, ◌+◌, ◌<◌, Bool, true, false, Option, Some, None, refl, sym, ap, ◌∙◌, subst, arith, ⊎_elim}
+use Rattle.std.proofs.Common.{◌≡◌, ℕ, ◌+◌, ◌<◌, Bool, true, false, cond, eqb, eqb-true, Option, Some, None, refl, sym, ap, ◌∙◌, subst, arith, ⊎_elim}
 use Rattle.std.specs.Prelude.{IsSomeAnd, IsTrue}
 use Rattle.hc_layout.specs.declared.words.GateWord.{GateWord}
 use Rattle.hc_heap.specs.Readings.{gate_in}
@@ -8,6 +8,7 @@ use Rattle.hc_heap.specs.Kept.{Adds, UnusedSaysNothing}
 use Rattle.hc_heap.specs.Frames.{goes-on-of}
 use Rattle.hc_heap.specs.States.{View, IsHeap}
 use Rattle.hc_descs.specs.Entries.{field_at}
+use Rattle.hc_descs.specs.Copies.{HasEntriesBut}
 use Rattle.hc_tree.specs.Kept.{MapsAreKept, MapsStay}
 use Rattle.hc_tree.specs.Tree.{IsTree}
 use Rattle.hc_tree.specs.Growth.{IsPlaced}
@@ -52,6 +53,35 @@ module _ (law : MapsAreKept) (unused : UnusedSaysNothing) (a b : View) (c e f m 
       let g = gate_of_map in
       let size : g.0.entries ≡ n = g.1.1 in
       tree.places m m g.0 g.0 i j y g.1.0 g.1.0 (omega (arith, size, li)) (omega (arith, size, lj)) fi fj
+
+  -- a copy with the map's own fields, but for a new one at one place
+  pub but-placed : (place : ℕ) → HasEntriesBut b.trail c m n place a.used.fields → IsPlaced b.trail c n
+  but-placed place entries = record { own = λ i j y li lj fi fj. both (eqb i place) (eqb j place) i j y refl refl li lj fi fj; others = λ x k i j y is li lj fi fj. other (eqb i place) x k i j y refl is li lj fi fj }
+    where
+      new-is : (i y : ℕ) → eqb i place ≡ true → i < n → field_at b.trail c i ≡ Some y → a.used.fields ≡ y
+      new-is i y e li fi = some-is a.used.fields y (field_at b.trail c i) (entries.fields i li ∙ ap (λ (t : Bool). cond t (Some a.used.fields) (field_at b.trail m i)) e) fi
+
+      old-is : (i y : ℕ) → eqb i place ≡ false → i < n → field_at b.trail c i ≡ Some y → field_at b.trail m i ≡ Some y
+      old-is i y e li fi = sym (entries.fields i li ∙ ap (λ (t : Bool). cond t (Some a.used.fields) (field_at b.trail m i)) e) ∙ fi
+
+      apart : (i y : ℕ) → i < n → field_at b.trail m i ≡ Some y → a.used.fields ≡ y → ⊥
+      apart i y li fi same =
+          let g = gate_of_map in
+          let size : g.0.entries ≡ n = g.1.1 in
+          let there = below m g.0 i y g.1.0 (omega (arith, size, li)) fi in
+          omega (arith, there, same)
+
+      both : (s t : Bool) (i j y : ℕ) → eqb i place ≡ s → eqb j place ≡ t → i < n → j < n → field_at b.trail c i ≡ Some y → field_at b.trail c j ≡ Some y → i ≡ j
+      both true true i j y ei ej li lj fi fj = eqb-true i place ei ∙ sym (eqb-true j place ej)
+      both true false i j y ei ej li lj fi fj = absurd (apart j y lj (old-is j y ej lj fj) (new-is i y ei li fi))
+      both false true i j y ei ej li lj fi fj = absurd (apart i y li (old-is i y ei li fi) (new-is j y ej lj fj))
+      both false false i j y ei ej li lj fi fj = like-place i j y li lj (old-is i y ei li fi) (old-is j y ej lj fj)
+
+      other : (s : Bool) (x : ℕ) (k : GateWord) (i j y : ℕ) → eqb i place ≡ s → gate_in b.trail x ≡ Some k → i < n → j < k.entries → field_at b.trail c i ≡ Some y → field_at b.trail x j ≡ Some y → i ≡ j
+      other true x k i j y e is li lj fi fj =
+          let here : a.used.fields ≡ y = new-is i y e li fi in
+          let there = below x k j y is lj fj in absurd (omega (arith, here, there))
+      other false x k i j y e is li lj fi fj = same-place x k i j y is li lj (old-is i y e li fi) fj
 
   -- a copy with the map's own fields, and one more
   last-placed : ((k : ℕ) → k < n → field_at b.trail c k ≡ field_at b.trail m k) → field_at b.trail c n ≡ Some a.used.fields → IsPlaced b.trail c (n + 1)

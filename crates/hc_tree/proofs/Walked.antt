@@ -1,5 +1,5 @@
--- A walk over the tree, from a root to the map that has the keys of another one.
-use Rattle.std.proofs.Common.{◌≡◌, ◌≢◌, ℕ, zero, suc, ◌+◌, ◌<◌, ◌≤◌, Bool, true, false, List, [], ◌∷◌, ◌++◌, Option, Some, None, refl, sym, ap, ◌∙◌, subst, arith, add-one, inl, inr, true≢false, cond, eqb, ltb, ltb-true}
+-- Maps that are made one under the other, with the keys of another map.
+use Rattle.std.proofs.Common.{◌≡◌, ◌≢◌, ℕ, zero, suc, ◌+◌, ◌<◌, ◌≤◌, Bool, true, false, List, [], ◌∷◌, ◌++◌, Option, Some, None, refl, sym, ap, ◌∙◌, subst, arith, add-one, true≢false, cond, eqb, ltb, ltb-true}
 use Rattle.std.specs.Prelude.{IsSomeAnd, IsSome}
 use Rattle.hc_layout.specs.Capacity.{cap_of}
 use Rattle.hc_layout.specs.declared.capacity.TheConstants.{MAX_FAST}
@@ -24,13 +24,12 @@ use Rattle.hc_tree.specs.Tree.{IsTree, IsChildFor, IsProperKey, gate_with, tagge
 use Rattle.hc_tree.specs.Kept.{MapsAreKept, MapsStay}
 use Rattle.hc_tree.specs.declared.need.Need.{Need}
 use Rattle.hc_tree.specs.declared.retarget.Wanted.{Wanted}
-use Rattle.hc_tree.specs.declared.retarget.Wanted.TheVariants.{Same, With, Joined}
+use Rattle.hc_tree.specs.declared.retarget.Wanted.TheVariants.{With, Joined}
 use Rattle.hc_tree.specs.Details.{ChildGets, NoMap, Reshapes, detail_of, detail_at}
 use Rattle.hc_tree.specs.Frames.{reshapes-later}
-use Rattle.hc_tree.specs.Needs.{HasSpace, IsNoLess, arrays_upto, build_need, walk_need, with_need}
+use Rattle.hc_tree.specs.Needs.{HasSpace, IsNoLess, arrays_upto, build_need, with_need}
 use Rattle.hc_tree.specs.Growth.{EndsWith, MakesMap, MayGrow, live_of, live_child, child_need}
-use Rattle.hc_tree.specs.Walking.{AreJoined, AreLinked, GetsJoin, GetsSame, GetsWanted, IsBuilt, IsLiveEnd, IsOwnedFrom, IsWalked, MayBeWanted, OpensNoRoot, WalkGets, both_details, joined_at, wanted_at}
-use Rattle.hc_tree.proofs.Joins.{bits-same, gates-same, lives-same}
+use Rattle.hc_tree.specs.Walking.{AreLinked, GetsWanted, IsBuilt, IsOwnedFrom, MayBeWanted, OpensNoRoot, both_details, joined_at, wanted_at}
 use Rattle.hc_tree.proofs.Made.{and-then, field-used, some-with}
 use Rattle.hc_tree.proofs.Opening.{cond-other, some-is, some-of, same-or, opens-one, opens-both, child-no-root, proto-stays, live-bits}
 
@@ -305,7 +304,6 @@ module _ (wanted : ℕ → Option Detail) (maps : MapsAreKept) (a b : View) (bas
 
   -- what can be wanted can be later
   pub may-later : (w : Wanted) → gate_in a.trail m ≡ Some (gate_with n false) → k < n → MayBeWanted a.shape a.trail m count w → MayBeWanted b.shape b.trail m count w
-  may-later Same is lt h = tt
   may-later (With d) is lt h = record { form = h.form; there = there-by d.class h.there }
     where
       there-by : (c : Class) → IsClassThere a.shape a.trail c → IsClassThere b.shape b.trail c
@@ -324,7 +322,6 @@ module _ (wanted : ℕ → Option Detail) (maps : MapsAreKept) (a b : View) (bas
 
   -- what is wanted next is what was wanted at first
   pub built-wants : UnusedSaysNothing → (w : Wanted) → gate_in a.trail m ≡ Some (gate_with n false) → k < n → MayBeWanted a.shape a.trail m count w → wanted_at b.trail m count w k ≡ wanted_at a.trail m count w k
-  built-wants unused Same is lt h = details-stay maps unused a b heap built-later it.kept m (gate_with n false) is k lt
   built-wants unused (With d) is lt h = ap (λ (o : Option Detail). cond (eqb k count) (both_details o (Some d)) o) (details-stay maps unused a b heap built-later it.kept m (gate_with n false) is k lt)
   built-wants unused (Joined end upto) is lt h = by (ltb k upto) refl
     where
@@ -431,103 +428,4 @@ module _ (wanted : ℕ → Option Detail) (maps : MapsAreKept) (a b : View) (bas
         ends = step.ends;
         tree = step.tree;
         heap = step.heap;
-      }
-
--- The whole walk
-
-module _ (maps : MapsAreKept) (unused : UnusedSaysNothing) (v w : View) (root end m count n : ℕ) (heap : IsHeap v) (ended : IsLiveEnd v.trail root m n end count) (it : AreJoined v w end m count count n count) (at_map : gate_in v.trail m ≡ Some (gate_with n false)) where
-  lawful-w : Lawful v.shape w.trail
-  lawful-w = subst (λ (s : Shape). Lawful s w.trail) (ap (λ (x : View). x.shape) it.view) it.heap.lawful
-
-  joined-later : MapsStay v.trail w.trail
-  joined-later = maps v.shape v.trail w.trail heap.lawful (goes-on-of v.shape it.only lawful-w)
-
-  pub joined-live : (bits_in w.trail end).deprecated ≡ false
-  joined-live = lives-same v.trail w.trail it.only end ∙ ended.path.live
-
-  pub joined-gate : gate_in w.trail end ≡ Some (gate_with count false)
-  joined-gate = joined-later.written.gate end (gate_with count false) ended.path.gate
-
-  pub joined-map : gate_in w.trail m ≡ Some (gate_with n false)
-  joined-map = joined-later.written.gate m (gate_with n false) at_map
-
-  pub joined-keys : (j : ℕ) → j < count → key_at w.trail end j ≡ key_at w.trail m j
-  joined-keys j lt =
-      let le = ended.within in
-      (joined-later.entry end j (gate_with count false) ended.path.gate lt).key ∙ ended.path.keys j lt ∙ sym (joined-later.entry m j (gate_with n false) at_map (omega (arith, lt, le))).key
-
-  pub joined-ends : (key : Key) → count < n → key_at w.trail m count ≡ Some key → live_child w.trail end key ≡ None
-  joined-ends key lt is = it.lives end key ∙ ended.ends key lt (sym (joined-later.entry m count (gate_with n false) at_map lt).key ∙ is)
-
-  pub joined-space : HasSpace v (walk_need n) → HasSpace w (build_need count n)
-  joined-space space = subst (λ (x : View). HasSpace x (build_need count n)) (sym it.view) (record {
-    maps = omega (arith, space.maps);
-    entries = omega (arith, space.entries);
-    fields = omega (arith, space.fields);
-    links = omega (arith, space.links);
-    slots = omega (arith, space.slots);
-  })
-
-  walked-gets : (x : View) (c : ℕ) → IsBuilt (wanted_at w.trail m count Same) w x end m c count n n → (f : ℕ) (d : Detail) → WalkGets v.trail end m count n v.used.fields f d → detail_in x.trail f ≡ Some d
-  walked-gets x c built f d (inl is) =
-      let here : field_at w.trail end is.place ≡ Some f = (joined-later.entry end is.place (gate_with count false) ended.path.gate is.within).field ∙ is.field in
-      let now : detail_in w.trail f ≡ Some d = sym (ap (detail_of w.trail) here) ∙ (it.joined is.place is.within ∙ is.joined) in
-      let below : f < w.used.fields = subst (λ (o : Option ℕ). IsSomeAnd o (λ y. y < w.used.fields)) here (fields-used maps unused w it.heap end (gate_with count false) joined-gate is.place is.within) in
-      built.kept f below ∙ now
-  walked-gets x c built f d (inr is) =
-      let used : w.used.fields ≡ v.used.fields = ap (λ (y : View). y.used.fields) it.view in
-      built.gets f d (record { place = is.place; from = is.from; within = is.within; field = omega (arith, is.field, used); same = it.others is.place is.from is.within ∙ is.same })
-
-  pub walked : (x : View) (c : ℕ) → IsBuilt (wanted_at w.trail m count Same) w x end m c count n n → IsWalked v x root m c n
-  walked x c built =
-      let used : w.used ≡ v.used = ap (λ (y : View). y.used) it.view in
-      let first = arrays_upto count in
-      let le = ended.within in
-      let bm : x.used.maps + count ≡ v.used.maps + n = subst (λ (u : Shape). x.used.maps + count ≡ u.maps + n) used built.maps in
-      let be : x.used.entries + arrays_upto count ≡ v.used.entries + arrays_upto n = subst (λ (u : Shape). x.used.entries + arrays_upto count ≡ u.entries + arrays_upto n) used built.entries in
-      let bf : x.used.fields + count ≡ v.used.fields + n = subst (λ (u : Shape). x.used.fields + count ≡ u.fields + n) used built.fields in
-      let bl : x.used.links + count ≡ v.used.links + n = subst (λ (u : Shape). x.used.links + count ≡ u.links + n) used built.links in
-      let bs : x.used.slots ≡ v.used.slots = built.slots ∙ ap (λ (u : Shape). u.slots) used in
-      let rise = arrays-rise count n le in
-      let second = subst (λ (u : Shape). Adds (Reshapes u NoMap (GetsSame w.trail m count n u.fields)) w.trail x.trail) used built.writes in
-      record {
-        end = end;
-        count = count;
-        ended = ended;
-        writes = adds-on
-            (adds-wider (reshapes-later v.used v.used (no-less-none v.used) NoMap (GetsJoin v.trail end m count) (WalkGets v.trail end m count n v.used.fields) (λ f d is. inl is)) it.writes)
-            (adds-wider (reshapes-later v.used v.used (no-less-none v.used) NoMap (GetsSame w.trail m count n v.used.fields) (WalkGets v.trail end m count n v.used.fields)
-            (λ f d is. inr (record { place = is.place; from = is.from; within = is.within; field = is.field; same = sym (it.others is.place is.from is.within) ∙ is.same }))) second);
-        gets = walked-gets x c built;
-        opens = λ y g none gate shared parent. built.opens y g (gates-same v.trail w.trail it.only y ∙ none) gate shared parent;
-        linked = λ y stable marked. built.linked y (ap (λ (b : MapBits). b.unstable) (bits-same v.trail w.trail it.only y) ∙ stable) marked;
-        needs = record {
-          maps = omega (arith, bm);
-          entries = omega (arith, be);
-          fields = omega (arith, bf);
-          links = omega (arith, bl);
-          slots = omega (arith, bs);
-          cells = built.cells ∙ ap (λ (u : Shape). u.cells) used;
-          rises = record {
-            maps = omega (arith, bm, le);
-            entries = omega (arith, be, rise);
-            fields = omega (arith, bf, le);
-            links = omega (arith, bl, le);
-            slots = omega (arith, bs);
-          };
-        };
-        objects = built.objects ∙ ap (λ (u : Shape). u.objects) used;
-        slots = bs;
-        shape = built.shape ∙ ap (λ (y : View). y.shape) it.view;
-        gate = built.gate;
-        live = built.live;
-        prototype = built.prototype ∙ proto-stays v.trail w.trail joined-later end (gate_with count false) ended.path.gate ∙ ended.path.prototype;
-        keys = built.keys;
-        joined = λ k lt.
-            ap (detail_of x.trail) (built.shared k lt)
-            ∙ of-same w.trail x.trail (field_at w.trail end k) (and-then (λ (f : ℕ). f < w.used.fields) (λ (f : ℕ). detail_in x.trail f ≡ detail_in w.trail f) (field_at w.trail end k) (fields-used maps unused w it.heap end (gate_with count false) joined-gate k lt) built.kept)
-            ∙ it.joined k lt;
-        made = λ k from lt. built.made k from lt ∙ it.others k from lt;
-        tree = built.tree;
-        heap = built.heap;
       }

@@ -99,7 +99,7 @@ same-some : {T : Type 0} (a b : T) (o : Option T) → o ≡ Some a → o ≡ Som
 same-some a b o x y = cc
 
 -- entries with the keys of a whole map, and with fields of their own
-like-whole : (t : Trail) (c m n : ℕ) → IsWhole t m n → ((k : ℕ) → k < n → key_at t c k ≡ key_at t m k) → ((k : ℕ) → k < n → IsSomeAnd (field_at t c k) (λ f. IsField t f)) → HaveTaggedAccessors t c n → IsWhole t c n
+pub like-whole : (t : Trail) (c m n : ℕ) → IsWhole t m n → ((k : ℕ) → k < n → key_at t c k ≡ key_at t m k) → ((k : ℕ) → k < n → IsSomeAnd (field_at t c k) (λ f. IsField t f)) → HaveTaggedAccessors t c n → IsWhole t c n
 like-whole t c m n h keys fields tagged = record {
   keys = λ k lt. subst IsSome (sym (keys k lt)) (h.keys k lt);
   fields = fields;

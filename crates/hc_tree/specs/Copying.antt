@@ -7,13 +7,13 @@ use Rattle.hc_value.specs.Field.{IsClassInRange}
 use Rattle.hc_value.specs.declared.field.Detail.{Detail}
 use Rattle.hc_value.specs.declared.prop.Kind.TheVariants.{AccessorProp}
 use Rattle.hc_heap.specs.Writes.{Write, Trail, Parent, Prototype, Base, Array, EntryKey, Reference, Owner, FieldDetail}
-use Rattle.hc_heap.specs.Readings.{gate_in, parent_in, prototype_in, owner_in, detail_in}
+use Rattle.hc_heap.specs.Readings.{no_bits, gate_in, parent_in, prototype_in, bits_in, owner_in, detail_in}
 use Rattle.hc_heap.specs.Lawful.{IsKey, IsField, IsClassThere}
 use Rattle.hc_tree.specs.declared.need.Need.{Need}
 use Rattle.hc_descs.specs.Entries.{key_at, field_at, count_of, LacksName}
 pub use Rattle.hc_fields.specs.Fields.{with_field}
 pub use Rattle.hc_tree.specs.Details.{detail_of, detail_at}
-use Rattle.hc_descs.specs.Copies.{HasEntriesOf, HasKeysOf}
+use Rattle.hc_descs.specs.Copies.{HasEntriesBut, HasEntriesOf, HasKeysOf}
 use Rattle.hc_links.specs.Chains.{links_in}
 use Rattle.hc_tree.specs.Tree.{gate_with, tagged_field, HaveDistinctNames, HaveProperKeys, HaveTaggedAccessors, IsProperKey}
 use Rattle.hc_tree.specs.Needs.{array_of}
@@ -134,3 +134,24 @@ FillsCopy c entry field t _ = ⊥
 -- the counts after a map was filled
 abbrev pub filled_used : Bool → More → ℕ → Shape → Shape
 filled_used fresh more n used = record used { entries = used.entries + copied_array more n; fields = used.fields + copied_fields fresh more n }
+
+-- Private maps of which one entry gets another field
+
+-- a private map has the prototype and the n entries of another one, but for a field of its own at one place
+pub record IsExchanged (t : Trail) (c m n place field : ℕ) : Type 0 where
+  pub gate : gate_in t c ≡ Some (gate_with n true)
+  pub parent : parent_in t c ≡ Some None
+  pub prototype : prototype_in t c ≡ prototype_in t m
+  pub entries : HasEntriesBut t c m n place field
+  pub owner : owner_in t field ≡ Some c
+  pub bits : bits_in t c ≡ no_bits
+
+-- writes that fill a new map, with entries from a first one on and one new field of a detail
+abbrev pub FillsOne : ℕ → ℕ → ℕ → Detail → Trail → Write → Type 0
+FillsOne c entry field detail t (EntryKey e key) = entry ≤ e
+FillsOne c entry field detail t (Reference e f) = entry ≤ e
+FillsOne c entry field detail t (Base m b) = m ≡ c
+FillsOne c entry field detail t (Array m a) = m ≡ c
+FillsOne c entry field detail t (Owner f m) = f ≡ field
+FillsOne c entry field detail t (FieldDetail f d) = (f ≡ field) × (d ≡ detail)
+FillsOne c entry field detail t _ = ⊥

@@ -60,6 +60,10 @@ abbrev pub ChildGets : Trail → Option ℕ → ℕ → Detail → ℕ → ℕ �
 ChildGets t (Some c) n d first f e = (field_at t c n ≡ Some f) × (e ≡ d)
 ChildGets t None n d first f e = (f ≡ first) × (e ≡ d)
 
+-- one field gets a detail, if there is one
+abbrev pub GetsOne : ℕ → Option Detail → ℕ → Detail → Type 0
+GetsOne field detail f d = (f ≡ field) × (detail ≡ Some d)
+
 -- exactly these fields got these details, and all others have what they had
 pub record DetailsAre (Gets : ℕ → Detail → Type 0) (old new : Trail) : Type 0 where
   pub gets : (f : ℕ) (d : Detail) → Gets f d → detail_in new f ≡ Some d

@@ -1,5 +1,5 @@
 -- Maps that are deprecated, each with all maps under it.
-use Rattle.std.specs.Prelude.{◌≡◌, ℕ, suc, ◌+◌, ◌<◌, ◌≤◌, true, false, IsTrue, IsSome, Option, Some, None}
+use Rattle.std.specs.Prelude.{◌≡◌, ◌⊎◌, ℕ, suc, ◌+◌, ◌<◌, ◌≤◌, true, false, IsTrue, IsSome, Option, Some, None, [], ◌∷◌}
 use Rattle.hc_layout.specs.declared.shape.Shape.{Shape}
 use Rattle.hc_layout.specs.declared.words.GateWord.{GateWord}
 use Rattle.hc_layout.specs.declared.words.MapBits.{MapBits}
@@ -12,6 +12,7 @@ use Rattle.hc_heap.specs.Kept.{Adds}
 use Rattle.hc_heap.specs.States.{View, IsHeap}
 use Rattle.hc_descs.specs.Entries.{count_of, field_at}
 use Rattle.hc_descs.specs.Copies.{HasEntriesOf}
+use Rattle.hc_links.specs.Chains.{links_in}
 use Rattle.hc_tree.specs.Details.{detail_at, joins_in_place}
 use Rattle.hc_tree.specs.Tree.{IsChildFor, IsTree, gate_with}
 use Rattle.hc_tree.specs.Growth.{live_child}
@@ -47,14 +48,23 @@ OutgrownFor t m key d x = IsOutgrown t (live_child t m key) (count_of t m) d x
 abbrev pub HaveDied : (ℕ → Type 0) → Trail → Trail → Type 0
 HaveDied Dies old new = (x : ℕ) → Dies x → IsSome (gate_in old x) → IsTrue (bits_in new x).deprecated
 
+-- a map of a kind is deprecated
+abbrev pub IsDead : (ℕ → Type 0) → Trail → ℕ → Type 0
+IsDead Dies t x = Dies x × IsTrue (bits_in t x).deprecated
+
+-- maps that became unstable are this one, or deprecated ones of a kind
+abbrev pub MarksOnly : ℕ → (ℕ → Type 0) → Trail → Trail → Type 0
+MarksOnly m Dies old new = (x : ℕ) → (bits_in old x).unstable ≡ false → IsTrue (bits_in new x).unstable → (x ≡ m) ⊎ IsDead Dies new x
+
 -- a map that may be deprecated is private, or has a parent: a root stays
 abbrev pub MayDie : Trail → ℕ → GateWord → Type 0
 MayDie t m g = g.is_private ≡ false → parent_in t m ≡ Some None → ⊥
 
--- a map was deprecated with all maps under it, and nothing else was stored
+-- a map was deprecated with all maps under it, and nothing else was stored: of a map without a link one word
 pub record IsDeprecated (old new : View) (m : ℕ) : Type 0 where
   pub view : new ≡ record old { trail = new.trail }
   pub writes : Adds (Deprecates old.trail m) old.trail new.trail
+  pub alone : links_in old.trail m ≡ [] → new.trail ≡ Bits m dead_bits ∷ old.trail
   pub dead : IsTrue (bits_in new.trail m).deprecated
   pub tree : IsTree new.trail
   pub heap : IsHeap new

@@ -65,6 +65,10 @@ pub record IsFew (need : Need) : Type 0 where
 abbrev pub slots_alone : ℕ → Need
 slots_alone slots = record no_need { slots = slots }
 
+-- what a private map with n entries needs to be made again with another field at one place
+abbrev pub own_need : ℕ → Need
+own_need n = record { maps = 1; entries = cap_of n; fields = 1; links = 0; slots = 0 }
+
 -- the entries of new maps with one entry, two, and so on up to n
 abbrev pub arrays_upto : ℕ → ℕ
 arrays_upto zero = 0

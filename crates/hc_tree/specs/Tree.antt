@@ -4,7 +4,7 @@ use Rattle.hc_layout.specs.declared.words.GateWord.{GateWord}
 use Rattle.hc_value.specs.Attrs.{is_read_only}
 use Rattle.hc_value.specs.declared.key.Key.{Key}
 use Rattle.hc_value.specs.declared.prop.Kind.TheVariants.{AccessorProp}
-use Rattle.hc_value.specs.declared.field.Rep.TheVariants.{Tagged, Wide}
+use Rattle.hc_value.specs.declared.field.Rep.TheVariants.{Tagged}
 use Rattle.hc_value.specs.declared.field.Constness.TheVariants.{Mutable}
 use Rattle.hc_value.specs.declared.field.Class.TheVariants.{Any}
 use Rattle.hc_value.specs.declared.field.Detail.{Detail}
@@ -42,14 +42,6 @@ tagged_field = record { rep = Tagged; constness = Mutable; class = Any }
 -- the fields of the accessors among a map's first n entries admit everything
 abbrev pub HaveTaggedAccessors : Trail → ℕ → ℕ → Type 0
 HaveTaggedAccessors t m n = (k f : ℕ) (key : Key) → k < n → key_at t m k ≡ Some key → key.kind ≡ AccessorProp → field_at t m k ≡ Some f → detail_in t f ≡ Some tagged_field
-
--- a detail whose values are words as they are, and not integers alone
-abbrev pub IsNarrow : Detail → Type 0
-IsNarrow d = d.rep ≢ Wide
-
--- no field is wide: every join is one in place
-abbrev pub AreNarrow : Trail → Type 0
-AreNarrow t = (f : ℕ) (d : Detail) → detail_in t f ≡ Some d → IsNarrow d
 
 -- a field stands at the same place in each open map that has it
 abbrev pub HaveOnePlace : Trail → Type 0

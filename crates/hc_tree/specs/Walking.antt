@@ -1,5 +1,5 @@
--- The shared map that has a prototype and the keys of another map: the maps that are made for it, and the one that is come to.
-use Rattle.std.specs.Prelude.{◌≡◌, ◌≢◌, ◌⊎◌, ℕ, zero, suc, ◌+◌, ◌<◌, ◌≤◌, ◌==◌, nat_lt, if◌then◌else◌, false, IsTrue, Option, Some, None, IfSome, IsSomeAnd, []}
+-- Maps in the place of others: the live ones that a walk comes to, and the new ones that are made.
+use Rattle.std.specs.Prelude.{◌≡◌, ◌≢◌, ℕ, zero, suc, ◌+◌, ◌<◌, ◌≤◌, ◌==◌, nat_lt, if◌then◌else◌, false, IsTrue, Option, Some, None, IfSome, IsSomeAnd, []}
 use Rattle.hc_layout.specs.declared.shape.Shape.{Shape}
 use Rattle.hc_value.specs.Field.{IsClassInRange, joined_detail}
 use Rattle.hc_value.specs.declared.prop.Kind.TheVariants.{AccessorProp}
@@ -11,20 +11,24 @@ use Rattle.hc_layout.specs.declared.words.GateWord.{GateWord}
 use Rattle.hc_heap.specs.Writes.{Write, Trail, Bits, ObjectMap, Root, Store, Slot}
 use Rattle.hc_heap.specs.Readings.{gate_in, parent_in, prototype_in, bits_in, owner_in, detail_in, root_in}
 use Rattle.hc_heap.specs.Kept.{Adds}
-use Rattle.hc_heap.specs.Lawful.{IsClassThere}
+use Rattle.hc_heap.specs.Lawful.{IsClassThere, Lawful}
 use Rattle.hc_heap.specs.States.{View, IsHeap}
 use Rattle.hc_descs.specs.Entries.{count_of, key_at, field_at}
 use Rattle.hc_tree.specs.declared.need.Need.{Need}
 use Rattle.hc_tree.specs.declared.retarget.Wanted.{Wanted}
-use Rattle.hc_tree.specs.declared.retarget.Wanted.TheVariants.{Same, With, Joined}
+use Rattle.hc_tree.specs.declared.retarget.Wanted.TheVariants.{With, Joined}
 use Rattle.hc_tree.specs.Growth.{live_child, root_of, root_need, with_named_root}
-use Rattle.hc_tree.specs.Needs.{IsWithin, arrays_upto, both, walk_need}
+use Rattle.hc_tree.specs.Needs.{arrays_upto, both, walk_need}
 use Rattle.hc_tree.specs.Tree.{IsRoot, IsTree, gate_with, tagged_field}
 
 -- a shared map that is nobody's child is the root that its prototype names; the root of null is one
 pub record AreRoots (t : Trail) (of_null : Option ℕ) : Type 0 where
   pub null : IfSome of_null (λ r. IsRoot t None r)
   pub named : (m : ℕ) (g : GateWord) (p : Option ℕ) → gate_in t m ≡ Some g → g.is_private ≡ false → parent_in t m ≡ Some None → prototype_in t m ≡ Some p → root_of t p of_null ≡ Some m
+
+-- above each shared map stands the root that its prototype names
+abbrev pub RootsStand : Type 0
+RootsStand = (s : Shape) (t : Trail) (of_null : Option ℕ) (m n : ℕ) (p : Option ℕ) → Lawful s t → IsTree t → AreRoots t of_null → gate_in t m ≡ Some (gate_with n false) → prototype_in t m ≡ Some p → (r : ℕ) × ((root_of t p of_null ≡ Some r) × IsRoot t p r)
 
 -- each map that was opened is private, or the child of another
 abbrev pub OpensNoRoot : Trail → Trail → Type 0
@@ -91,7 +95,6 @@ pub record GetsJoin (t : Trail) (end m count f : ℕ) (d : Detail) : Type 0 wher
 
 -- what is to be admitted by the field of a new map's j-th entry, where the first new entry is this one
 abbrev pub wanted_at : Trail → ℕ → ℕ → Wanted → ℕ → Option Detail
-wanted_at t m first Same j = detail_at t m j
 wanted_at t m first (With d) j = if j == first then both_details (detail_at t m j) (Some d) else detail_at t m j
 wanted_at t m first (Joined end count) j = if nat_lt j count then joined_at t end m j else detail_at t m j
 
@@ -113,7 +116,6 @@ pub record HasFirstKeys (t : Trail) (end m count : ℕ) : Type 0 where
 
 -- what is wanted for a map's entries can be admitted
 abbrev pub MayBeWanted : Shape → Trail → ℕ → ℕ → Wanted → Type 0
-MayBeWanted s t m first Same = Unit {0}
 MayBeWanted s t m first (With d) = IsDetail s t d
 MayBeWanted s t m first (Joined end count) = HasFirstKeys t end m count
 
@@ -128,11 +130,6 @@ pub record GetsWanted (wanted : ℕ → Option Detail) (count n first f : ℕ) (
 -- a new field gets what the other map's field admits
 abbrev pub GetsSame : Trail → ℕ → ℕ → ℕ → ℕ → ℕ → Detail → Type 0
 GetsSame t m count n first f d = GetsWanted (detail_at t m) count n first f d
-
--- what fields get in a walk for the n keys of a map: up to the end of the live children the joins, and past it what the
--- map's fields admit
-abbrev pub WalkGets : Trail → ℕ → ℕ → ℕ → ℕ → ℕ → ℕ → Detail → Type 0
-WalkGets t end m count n first f d = GetsJoin t end m count f d ⊎ GetsSame t m count n first f d
 
 -- a map that became unstable has a link
 abbrev pub AreLinked : Trail → Trail → Type 0
@@ -180,30 +177,6 @@ pub record IsBuilt (wanted : ℕ → Option Detail) (old new : View) (base m c c
   pub tree : IsTree new.trail
   pub heap : IsHeap new
 
--- a walk came from a root to a shared and live map with the same prototype, whose n entries have the keys of another map.
--- The maps that were there were come to, and those that were missing were made, within a need; what the fields of the
--- former admitted was joined with what the other map's fields admit, and those of the latter admit what they do
-pub record IsWalked (old new : View) (root m c n : ℕ) : Type 0 where
-  pub end : ℕ
-  pub count : ℕ
-  pub ended : IsLiveEnd old.trail root m n end count
-  pub writes : Adds (Reshapes old.used NoMap (WalkGets old.trail end m count n old.used.fields)) old.trail new.trail
-  pub gets : (f : ℕ) (d : Detail) → WalkGets old.trail end m count n old.used.fields f d → detail_in new.trail f ≡ Some d
-  pub opens : OpensNoRoot old.trail new.trail
-  pub linked : AreLinked old.trail new.trail
-  pub needs : IsWithin (walk_need n) old.used new.used
-  pub objects : new.used.objects ≡ old.used.objects
-  pub slots : new.used.slots ≡ old.used.slots
-  pub shape : new.shape ≡ old.shape
-  pub gate : gate_in new.trail c ≡ Some (gate_with n false)
-  pub live : (bits_in new.trail c).deprecated ≡ false
-  pub prototype : prototype_in new.trail c ≡ prototype_in old.trail root
-  pub keys : (k : ℕ) → k < n → key_at new.trail c k ≡ key_at new.trail m k
-  pub joined : (k : ℕ) → k < count → detail_at new.trail c k ≡ joined_at old.trail end m k
-  pub made : (k : ℕ) → count ≤ k → k < n → detail_at new.trail c k ≡ detail_at old.trail m k
-  pub tree : IsTree new.trail
-  pub heap : IsHeap new
-
 -- a shared map has this prototype, and as many entries as another map, with the same keys
 pub record IsLike (t : Trail) (c m n : ℕ) (proto : Option ℕ) : Type 0 where
   pub gate : gate_in t c ≡ Some (gate_with n false)
@@ -218,25 +191,3 @@ shared_need t n proto of_null = both (walk_need n) (root_need (root_of t proto o
 abbrev pub with_root_for : Option ℕ → Trail → Option ℕ → ℕ → Trail
 with_root_for (Some r) t proto root = t
 with_root_for None t proto root = with_named_root t proto root
-
--- the live map with the n keys of a map and another prototype was found or made, as was the root that it comes from. What
--- the fields of maps that were found admitted was joined with what the map's fields admit, and those of new maps admit that
-pub record HasMapFor (old new : View) (null then_null : Option ℕ) (m c n : ℕ) (proto : Option ℕ) : Type 0 where
-  pub root : ℕ
-  pub end : ℕ
-  pub count : ℕ
-  pub ended : IsLiveEnd (with_root_for (root_of old.trail proto null) old.trail proto root) root m n end count
-  pub writes : Adds (Reshapes old.used NoMap (WalkGets old.trail end m count n old.used.fields)) old.trail new.trail
-  pub gets : (f : ℕ) (d : Detail) → WalkGets old.trail end m count n old.used.fields f d → detail_in new.trail f ≡ Some d
-  pub linked : AreLinked old.trail new.trail
-  pub roots : AreRoots new.trail then_null
-  pub needs : IsWithin (shared_need old.trail n proto null) old.used new.used
-  pub objects : new.used.objects ≡ old.used.objects
-  pub slots : new.used.slots ≡ old.used.slots
-  pub shape : new.shape ≡ old.shape
-  pub like : IsLike new.trail c m n proto
-  pub live : (bits_in new.trail c).deprecated ≡ false
-  pub joined : (k : ℕ) → k < count → detail_at new.trail c k ≡ joined_at old.trail end m k
-  pub made : (k : ℕ) → count ≤ k → k < n → detail_at new.trail c k ≡ detail_at old.trail m k
-  pub tree : IsTree new.trail
-  pub heap : IsHeap new

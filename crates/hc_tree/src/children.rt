@@ -11,7 +11,7 @@ ghost use Rattle.hc_descs.specs.Entries.{LacksName, count_of, field_at};
 ghost use Rattle.hc_fields.specs.Fields.{raised};
 ghost use Rattle.hc_links.specs.Chains.{links_in};
 ghost use Rattle.hc_tree.specs.Tree.{IsTree, IsChildFor, IsDeadFor, IsProperKey, gate_with, tagged_field};
-ghost use Rattle.hc_tree.specs.Dying.{HaveDied, IsOutgrown, OutgrownFor};
+ghost use Rattle.hc_tree.specs.Dying.{HaveDied, IsOutgrown, MarksOnly, OutgrownFor};
 ghost use Rattle.hc_tree.specs.Details.{ChildGets, DetailsAre, NoMap, Reshapes, child_detail};
 ghost use Rattle.hc_tree.specs.Needs.{HasSpace, IsSpaceExact, used_after, with_need};
 ghost use Rattle.hc_tree.specs.Growth.{MayGrow, EndsWith, MakesMap, IsUnmoved, IsReadyChild, asked_detail, fit_of, fitting_child, live_child, child_need, marked, AskGets};
@@ -59,6 +59,7 @@ pub fn child_or_make<P: Pace>(
     ensures writes { Adds (Reshapes h.old.view.used (OutgrownFor h.old.view.trail map key detail) (AskGets h.old.view.trail map key detail h.old.view.used.fields)) h.old.view.trail h.new.view.trail }
     ensures details { IfOk result (λ c. DetailsAre (AskGets h.old.view.trail map key detail h.old.view.used.fields) h.old.view.trail h.new.view.trail) }
     ensures dead { IfOk result (λ c. HaveDied (OutgrownFor h.old.view.trail map key detail) h.old.view.trail h.new.view.trail) }
+    ensures marks { IfOk result (λ c. MarksOnly map (OutgrownFor h.old.view.trail map key detail) h.old.view.trail h.new.view.trail) }
     ensures raised { (c f : ℕ) → fitting_child h.old.view.trail map key detail ≡ Some c → field_at h.old.view.trail c (count_of h.old.view.trail map) ≡ Some f → h.new.view ≡ record h.old.view { trail = raised h.old.view.trail f detail } }
     ensures begins { IfOk result (λ c. fitting_child h.old.view.trail map key detail ≡ None → Adds (Reshapes h.old.view.used (OutgrownFor h.old.view.trail map key detail) (AskGets h.old.view.trail map key detail h.old.view.used.fields)) (marked h.old.view.trail map) h.new.view.trail) }
     ensures makes { IfOk result (λ c. live_child h.old.view.trail map key ≡ None → Adds (MakesMap h.old.view.used (Some map)) (marked h.old.view.trail map) h.new.view.trail) }
@@ -158,6 +159,7 @@ fn make_instead<P: Pace>(
     ensures begins { Adds (Reshapes h.old.view.used (IsOutgrown h.old.view.trail known n detail) (ChildGets h.old.view.trail None n (child_detail h.old.view.trail known n detail) h.old.view.used.fields)) (marked h.old.view.trail map) h.new.view.trail }
     ensures makes { known ≡ None → Adds (MakesMap h.old.view.used (Some map)) (marked h.old.view.trail map) h.new.view.trail }
     ensures dead { HaveDied (IsOutgrown h.old.view.trail known n detail) h.old.view.trail h.new.view.trail }
+    ensures marks { MarksOnly map (IsOutgrown h.old.view.trail known n detail) h.old.view.trail h.new.view.trail }
     ensures shape { h.new.view.shape ≡ h.old.view.shape }
     ensures tree { IsTree h.new.view.trail }
     ensures heap { IsHeap h.new.view }

@@ -120,7 +120,7 @@ fn copied(more: Option<(Key, Detail)>, n: u32) -> u32
 }
 
 // Hands out a map that is nobody's child, and gives it its prototype.
-fn new_closed<P: Pace>(h: &mut Heap<P>, proto: Option<u32>) -> u32
+pub(crate) fn new_closed<P: Pace>(h: &mut Heap<P>, proto: Option<u32>) -> u32
     requires tree { IsTree h.old.view.trail }
     requires proto { MayBePrototype h.old.view.used h.old.view.trail proto }
     requires room { HasRoom h.old.view Maps 1 }
@@ -236,7 +236,7 @@ fn fill_alike<P: Pace>(h: &mut Heap<P>, map: u32, copy: u32, n: u32, fresh: bool
 }
 
 // Opens a private map that has all its entries.
-fn open_private<P: Pace>(h: &mut Heap<P>, map: u32, n: u32)
+pub(crate) fn open_private<P: Pace>(h: &mut Heap<P>, map: u32, n: u32)
     requires tree { IsTree h.old.view.trail }
     requires handed { map < h.old.view.used.maps }
     requires closed { IsClosed h.old.view.trail map }

@@ -1,6 +1,7 @@
 //! What a lawful trail keeps of maps. The functions do nothing: each has a law as its contract, for a proof that calls it.
 ghost use Rattle.hc_tree.specs.Dying.{LiveIsChild, LiveStandHigh, OneIsLive, OwnerIsFreed, OwnersStand, ParentIsSpared};
 ghost use Rattle.hc_tree.specs.Kept.{MapsAreKept, TreesStay};
+ghost use Rattle.hc_tree.specs.Walking.{RootsStand};
 
 use hc_heap::{details_rise, entries_are_kept, gates_are_open, written_is_kept};
 use hc_links::same_keys_are_equal;
@@ -22,6 +23,12 @@ pub fn trees_stay()
 
 pub fn owners_stand()
     ensures law { OwnersStand }
+{
+    maps_are_kept();
+}
+
+pub fn roots_stand()
+    ensures law { RootsStand }
 {
     maps_are_kept();
 }

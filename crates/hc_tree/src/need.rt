@@ -3,7 +3,7 @@ ghost use Rattle.std.specs.Prelude.{◌≡◌, ◌+◌, ◌*◌, ◌<◌, ◌≤
 ghost use Rattle.hc_layout.specs.declared.capacity.TheConstants.{MAX_FAST};
 ghost use Rattle.hc_tree.specs.Copying.{Extra, copy_need};
 ghost use Rattle.hc_tree.specs.Growth.{child_need, root_need};
-ghost use Rattle.hc_tree.specs.Needs.{HasSpace, IsFew, array_of, arrays_upto, both, build_need, no_need, slots_alone, walk_need};
+ghost use Rattle.hc_tree.specs.Needs.{HasSpace, IsFew, array_of, arrays_upto, both, build_need, no_need, own_need, slots_alone, walk_need};
 
 use hc_heap::{Heap, Pace};
 use hc_layout::{MAX_FAST, Region, cap};
@@ -127,6 +127,22 @@ pub fn of_longer_copy(n: u32) -> Need
     Need {
         maps: 1,
         entries: cap(n + 1),
+        fields: 1,
+        links: 0,
+        slots: 0,
+    }
+}
+
+/// What a private map with n entries needs to be made again with another field at one place.
+pub fn of_own(n: u32) -> Need
+    requires some { 0 < n }
+    requires few { n ≤ MAX_FAST }
+    ensures need { result ≡ own_need n }
+    ensures few { IsFew result }
+{
+    Need {
+        maps: 1,
+        entries: cap(n),
         fields: 1,
         links: 0,
         slots: 0,

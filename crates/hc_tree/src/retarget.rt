@@ -1,19 +1,18 @@
-//! The shared map with another prototype and the keys of a map.
+//! Maps in the place of others: live ones that are walked to, whose fields are raised, and new ones.
 ghost use Rattle.std.specs.Prelude.{ℕ, ◌≡◌, ◌+◌, ◌<◌, ◌≤◌, true, false, None, Some};
 ghost use Rattle.hc_value.specs.declared.key.Key.{Key};
 ghost use Rattle.hc_heap.specs.Readings.{bits_in, gate_in};
 ghost use Rattle.hc_heap.specs.States.{Goes};
 ghost use Rattle.hc_descs.specs.Entries.{count_of, key_at};
-ghost use Rattle.hc_tree.specs.Growth.{MayBePrototype, child_need, live_child};
-ghost use Rattle.hc_tree.specs.Needs.{HasSpace, build_need, walk_need};
+ghost use Rattle.hc_tree.specs.Growth.{child_need, live_child};
+ghost use Rattle.hc_tree.specs.Needs.{HasSpace, build_need};
 ghost use Rattle.hc_tree.specs.Details.{fits_at};
-ghost use Rattle.hc_tree.specs.Tree.{AreNarrow, IsTree, gate_with};
-ghost use Rattle.hc_tree.specs.Walking.{AreJoined, AreRoots, HasMapFor, IsBuilt, IsLiveEnd, IsWalked, MayAdmit, MayBeWanted, shared_need, wanted_at};
+ghost use Rattle.hc_tree.specs.Tree.{IsTree, gate_with};
+ghost use Rattle.hc_tree.specs.Walking.{AreJoined, IsBuilt, IsLiveEnd, MayAdmit, MayBeWanted, wanted_at};
 
 use crate::children::{live, make_child};
 use crate::fields::{admit, detail_at};
 use crate::laws::maps_are_kept;
-use crate::roots::root;
 use hc_descs::key_at;
 use hc_heap::{Heap, Pace, forms_are_kept, gates_are_open, unused_says_nothing};
 use hc_links::{links_are_kept, same_keys_are_equal};
@@ -22,11 +21,9 @@ use hc_value::Detail;
 /// What the fields of new maps are to admit, that are made for the entries of a map from one on.
 #[derive(Clone, Copy)]
 pub enum Wanted {
-    /// What the map's fields admit.
-    Same,
-    /// The same, joined with this detail for the first of the new entries.
+    /// What the map's fields admit, joined with this detail for the first of the new entries.
     With(Detail),
-    /// For so many first entries the join with what another map's fields admit, and then the same.
+    /// What the map's fields admit, joined for so many first entries with what another map's fields do.
     Joined(u32, u32),
 }
 
@@ -97,7 +94,6 @@ fn wanted_detail<P: Pace>(
     h.stands();
     let own = detail_at(h, map, k);
     match wanted {
-        Wanted::Same => own,
         Wanted::With(detail) => { if k == first { own.join(detail) } else { own } }
         Wanted::Joined(end, count) => {
             if k < count {
@@ -168,53 +164,4 @@ pub fn build<P: Pace>(
         at = step(h, at, map, k, n, detail);
     }
     at
-}
-
-// Comes from a live root to the map with the n keys of a map. Maps that are missing are made.
-fn walk<P: Pace>(h: &mut Heap<P>, root: u32, map: u32, n: u32) -> u32
-    requires tree { IsTree h.old.view.trail }
-    requires narrow { AreNarrow h.old.view.trail }
-    requires live { (bits_in h.old.view.trail root).deprecated ≡ false }
-    requires root { gate_in h.old.view.trail root ≡ Some (gate_with 0 false) }
-    requires map { gate_in h.old.view.trail map ≡ Some (gate_with n false) }
-    requires space { HasSpace h.old.view (walk_need n) }
-    ensures walked { IsWalked h.old.view h.new.view root map result n }
-    ensures goes { Goes h.old.desk h.new.desk }
-    ensures went { P.went h.old.pace h.old.desk.trail h.new.desk.trail h.new.pace }
-{
-    maps_are_kept();
-    gates_are_open();
-    unused_says_nothing();
-    h.stands();
-    let end = live_end(h, root, map, n);
-    let count = h.gate(end).unwrap().entries;
-    admit_all(h, end, map, count, count, n);
-    build(h, end, map, count, n, Wanted::Same)
-}
-
-/// The shared map with a prototype and the n keys of a map, where no field is wide. Maps that are missing are made, for which
-/// there is room.
-pub fn map_for<P: Pace>(
-    h: &mut Heap<P>,
-    map: u32,
-    n: u32,
-    proto: Option<u32>,
-    of_null: &mut Option<u32>,
-) -> u32
-    requires tree { IsTree h.old.view.trail }
-    requires narrow { AreNarrow h.old.view.trail }
-    requires roots { AreRoots h.old.view.trail of_null.old }
-    requires map { gate_in h.old.view.trail map ≡ Some (gate_with n false) }
-    requires proto { MayBePrototype h.old.view.used h.old.view.trail proto }
-    requires space { HasSpace h.old.view (shared_need h.old.view.trail n proto of_null.old) }
-    ensures found { HasMapFor h.old.view h.new.view of_null.old of_null.new map result n proto }
-    ensures goes { Goes h.old.desk h.new.desk }
-    ensures went { P.went h.old.pace h.old.desk.trail h.new.desk.trail h.new.pace }
-{
-    maps_are_kept();
-    h.stands();
-    let Ok(root) = root(h, proto, of_null) else {
-        unreachable!()
-    };
-    walk(h, root, map, n)
 }

@@ -1,21 +1,23 @@
 -- A map that is cut: what its owner's death leaves.
-use Rattle.std.proofs.Common.{◌≡◌, ℕ, zero, suc, ◌<◌, Bool, true, false, cond, eqb, eqb-true, Option, Some, None, IsSome, ◌∷◌, refl, sym, ap, ◌∙◌, subst, arith, true≢false}
+use Rattle.std.proofs.Common.{◌≡◌, ℕ, zero, suc, ◌<◌, ◌≤◌, Bool, true, false, cond, eqb, eqb-true, Option, Some, None, IsSome, ◌∷◌, refl, sym, ap, ◌∙◌, subst, arith, true≢false}
 use Rattle.std.specs.Prelude.{IsTrue, IsSomeAnd}
 use Rattle.hc_layout.specs.declared.words.GateWord.{GateWord}
 use Rattle.hc_layout.specs.declared.words.MapBits.{MapBits}
 use Rattle.hc_value.specs.declared.key.Key.{Key}
 use Rattle.hc_heap.specs.Writes.{Write, Trail, Bits}
-use Rattle.hc_heap.specs.Readings.{gate_in, parent_in, bits_in, owner_in}
-use Rattle.hc_heap.specs.Kept.{Adds}
+use Rattle.hc_heap.specs.Readings.{gate_in, parent_in, bits_in, owner_in, detail_in}
+use Rattle.hc_heap.specs.Kept.{Adds, UnusedSaysNothing}
+use Rattle.hc_heap.specs.Lawful.{IsField}
+use Rattle.hc_heap.specs.declared.kind.Kind.TheVariants.{OwnerOfField}
 use Rattle.hc_heap.specs.Frames.{adds-none, adds-wider, same-after}
 use Rattle.hc_heap.specs.States.{View, IsHeap}
-use Rattle.hc_descs.specs.Entries.{field_at, key_at}
+use Rattle.hc_descs.specs.Entries.{detail_of, field_at, key_at}
 use Rattle.hc_tree.specs.Tree.{IsTree, gate_with}
 use Rattle.hc_tree.specs.Growth.{live_child}
 use Rattle.hc_tree.specs.Walking.{above, ancestor, parent_of}
-use Rattle.hc_tree.specs.Dying.{Deprecates, IsDeprecated, IsHigh, IsOwnerOf, IsUnder, LiveStandHigh, MayDie, OwnerIsFreed, OwnersStand, ParentIsSpared}
+use Rattle.hc_tree.specs.Dying.{Deprecates, IsDead, IsDeprecated, IsHigh, IsOwnerOf, IsUnder, LiveStandHigh, MayDie, OwnerIsFreed, OwnersStand, ParentIsSpared}
 use Rattle.hc_tree.specs.Frames.{dies-same, kept-after}
-use Rattle.hc_update.specs.Renewing.{AreDead, Cuts, IsCut, IsDoomed}
+use Rattle.hc_update.specs.Renewing.{AreDead, Cuts, IsChild, IsCut, IsDoomed}
 
 pub some-of : {T : Type 0} (o : Option T) → IsSome o → (v : T) × (o ≡ Some v)
 some-of (Some v) h = (v, refl)
@@ -23,6 +25,22 @@ some-of None h = let n : ⊥ = cc in absurd n
 
 pub same-some : {T : Type 0} (a b : T) (o : Option T) → o ≡ Some a → o ≡ Some b → a ≡ b
 same-some a b o p q = cc
+
+pub field-used : UnusedSaysNothing → (v : View) → IsHeap v → (f : ℕ) → IsField v.trail f → f < v.used.fields
+field-used unused v heap f made =
+    let o = some-of (owner_in v.trail f) made.owner in
+    below f v.used.fields (λ le. let none : owner_in v.trail f ≡ None = unused v.used v.trail OwnerOfField f heap.used le in let n : None ≡ Some o.0 = sym none ∙ o.1 in let z : ⊥ = cc in z)
+  where
+    below : (a b : ℕ) → (b ≤ a → ⊥) → a < b
+    below a b h = omega (arith, h)
+
+pub of-same : (a b : Trail) (o : Option ℕ) → IsSomeAnd o (λ f. detail_in b f ≡ detail_in a f) → detail_of b o ≡ detail_of a o
+of-same a b (Some f) same = same
+of-same a b None same = absurd same
+
+pub and-then : (P Q : ℕ → Type 0) (o : Option ℕ) → IsSomeAnd o P → ((v : ℕ) → P v → Q v) → IsSomeAnd o Q
+and-then P Q (Some v) h f = f v h
+and-then P Q None h f = absurd h
 
 -- a reading that no bits change is the same after maps were cut
 pub cuts-same : {T : Type 0} (top : Trail) (m n i : ℕ) (a b : Trail) (reading : Trail → T) → ((t : Trail) (c : ℕ) (w : MapBits) → reading (Bits c w ∷ t) ≡ reading t) → Adds (Cuts top m n i) a b → reading b ≡ reading a
@@ -45,9 +63,27 @@ not-dead : (b : Bool) → (b ≡ false → ⊥) → IsTrue b
 not-dead true h = refl
 not-dead false h = absurd (h refl)
 
-not-live : (b : Bool) → (IsTrue b → ⊥) → b ≡ false
+pub not-live : (b : Bool) → (IsTrue b → ⊥) → b ≡ false
 not-live true h = absurd (h refl)
 not-live false h = refl
+
+-- a map that has nothing above it has nothing further up
+no-above : (t : Trail) (x : ℕ) → parent_of (parent_in t x) ≡ None → (depth : ℕ) → ancestor t (suc depth) x ≡ None
+no-above t x none zero = none
+no-above t x none (suc d) = ap (above t) (no-above t x none d)
+
+-- a map under a child is a child
+child-under : (t : Trail) (a p x : ℕ) → parent_in t a ≡ Some (Some p) → (depth : ℕ) → ancestor t depth x ≡ Some a → IsChild t x
+child-under t a p x parent zero leads = let same : x ≡ a = cc in (p, ap (parent_in t) same ∙ parent)
+child-under t a p x parent (suc d) leads = by (parent_in t x) refl
+  where
+    no : parent_of (parent_in t x) ≡ None → IsChild t x
+    no none = let n : None ≡ Some a = sym (no-above t x none d) ∙ leads in let f : ⊥ = cc in absurd f
+
+    by : (o : Option (Option ℕ)) → parent_in t x ≡ o → IsChild t x
+    by (Some (Some q)) is = (q, is)
+    by (Some None) is = no (ap parent_of is)
+    by None is = no (ap parent_of is)
 
 -- the map that the words name as the owner is the owner
 pub owner-here : OwnersStand → (v : View) (m n i field owner : ℕ) → IsHeap v → IsTree v.trail → gate_in v.trail m ≡ Some (gate_with n false) → i < n → field_at v.trail m i ≡ Some field → owner_in v.trail field ≡ Some owner → IsOwnerOf v.trail m n i owner
@@ -76,6 +112,7 @@ cut-none v m n i heap tree gate live same = record {
   ends = λ key lt is. absurd (omega (arith, lt, same));
   whole = λ is. refl;
   same = λ is. refl;
+  children = λ x doomed. let lt = doomed.within in absurd (omega (arith, lt, same));
   tree = tree;
   heap = heap;
 }
@@ -131,18 +168,26 @@ module _ (high : LiveStandHigh) (v : View) (m n i a : ℕ) (tree : IsTree v.trai
           subst (λ (k : Key). live_child w.trail own.parent k ≡ None) same (freed v w own.parent a (gate_with i false) own.key tree own.gate own.child its-high.live it);
       whole = λ is. absurd (omega (arith, is, lt));
       same = λ is. absurd (omega (arith, is, lt));
+      children = λ x h.
+          let fields : h.field ≡ own.field = same-some h.field own.field (field_at v.trail m i) h.is_field own.is_field in
+          let owners : h.owner ≡ a = same-some h.owner a (owner_in v.trail own.field) (ap (owner_in v.trail) (sym fields) ∙ h.owns) own.owner in
+          child-under v.trail a own.parent x own.child.parent h.under.depth (h.under.leads ∙ ap (λ (y : ℕ). Some y) owners);
       tree = it.tree;
       heap = it.heap;
     }
 
 -- a map that a cut made unstable is one that died
-pub cut-linked : (v w : View) (m n i x : ℕ) → Adds (Cuts v.trail m n i) v.trail w.trail → (bits_in v.trail x).unstable ≡ false → IsTrue (bits_in w.trail x).unstable → IsDoomed v.trail m n i x
-cut-linked v w m n i x adds stable = kept-after (λ (t : Trail). IsTrue (bits_in t x).unstable → IsDoomed v.trail m n i x) step adds (λ now. absurd (true≢false (sym now ∙ stable)))
+pub cut-linked : (v w : View) (m n i x : ℕ) → Adds (Cuts v.trail m n i) v.trail w.trail → (bits_in v.trail x).unstable ≡ false → IsTrue (bits_in w.trail x).unstable → IsDead (IsDoomed v.trail m n i) w.trail x
+cut-linked v w m n i x adds stable = kept-after Marked step adds (λ now. absurd (true≢false (sym now ∙ stable)))
   where
-    step-by : (t : Trail) (c : ℕ) (b : MapBits) (test : Bool) → eqb c x ≡ test → IsDoomed v.trail m n i c → (IsTrue (bits_in t x).unstable → IsDoomed v.trail m n i x) → IsTrue (cond test b (bits_in t x)).unstable → IsDoomed v.trail m n i x
-    step-by t c b true is here before now = subst (λ (y : ℕ). IsDoomed v.trail m n i y) (eqb-true c x is) here
-    step-by t c b false is here before now = before now
+    Marked : Trail → Type 0
+    Marked t = IsTrue (bits_in t x).unstable → IsDead (IsDoomed v.trail m n i) t x
 
-    step : (t : Trail) (y : Write) → Cuts v.trail m n i t y → (IsTrue (bits_in t x).unstable → IsDoomed v.trail m n i x) → IsTrue (bits_in (y ∷ t) x).unstable → IsDoomed v.trail m n i x
-    step t (Bits c b) e before now = step-by t c b (eqb c x) refl e.0 before now
-    step t _ e before now = absurd e
+    step-by : (t : Trail) (c : ℕ) (b : MapBits) (test : Bool) → eqb c x ≡ test → IsDoomed v.trail m n i c → IsTrue b.deprecated → (IsTrue (bits_in t x).unstable → IsDoomed v.trail m n i x × IsTrue (bits_in t x).deprecated)
+        → IsTrue (cond test b (bits_in t x)).unstable → IsDoomed v.trail m n i x × IsTrue (cond test b (bits_in t x)).deprecated
+    step-by t c b true is here dead before now = (subst (λ (y : ℕ). IsDoomed v.trail m n i y) (eqb-true c x is) here, dead)
+    step-by t c b false is here dead before now = before now
+
+    step : (t : Trail) (y : Write) → Cuts v.trail m n i t y → Marked t → Marked (y ∷ t)
+    step t (Bits c b) e before = λ now. step-by t c b (eqb c x) refl e.0 (ap (λ (z : MapBits). z.deprecated) e.1) before now
+    step t _ e before = absurd e

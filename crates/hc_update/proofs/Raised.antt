@@ -9,24 +9,25 @@ use Rattle.hc_value.specs.declared.field.Detail.{Detail}
 use Rattle.hc_value.specs.declared.key.Key.{Key}
 use Rattle.hc_heap.specs.Writes.{Trail, FieldDetail}
 use Rattle.hc_heap.specs.Readings.{gate_in, parent_in, prototype_in, bits_in, owner_in, detail_in}
-use Rattle.hc_heap.specs.Kept.{SetIsKept, UnusedSaysNothing}
+use Rattle.hc_heap.specs.Kept.{Adds, SetIsKept, UnusedSaysNothing}
 use Rattle.hc_heap.specs.Lawful.{IsField}
 use Rattle.hc_heap.specs.Frames.{adds-on, adds-wider, goes-still}
 use Rattle.hc_heap.specs.States.{View, IsHeap}
-use Rattle.hc_heap.specs.declared.kind.Kind.TheVariants.{OwnerOfField}
 use Rattle.hc_descs.specs.Entries.{count_of, entries_in, field_at, key_at}
 use Rattle.hc_links.specs.Chains.{links_in}
 use Rattle.hc_tree.specs.Kept.{MapsAreKept}
 use Rattle.hc_tree.specs.Tree.{IsTree, gate_with}
 use Rattle.hc_tree.specs.Needs.{HasSpace, IsNoLess, arrays_upto, build_need, walk_need}
 use Rattle.hc_tree.specs.Growth.{live_child}
-use Rattle.hc_tree.specs.Details.{NoMap, detail_at, detail_of, fits_at, joins_in_place}
-use Rattle.hc_tree.specs.Frames.{details-same, reshapes-dies, reshapes-later}
+use Rattle.hc_tree.specs.Details.{NoMap, Reshapes, detail_at, detail_of, fits_at, joins_in_place}
+use Rattle.hc_tree.specs.Frames.{details-by, details-same, reshapes-dies, reshapes-later}
 use Rattle.hc_tree.specs.Walking.{IsOwnedFrom, AreJoined, ancestor, GetsJoin, GetsWanted, HasFirstKeys, IsBuilt, IsLiveEnd, joined_at, both_details, wanted_at}
 use Rattle.hc_tree.specs.declared.retarget.Wanted.TheVariants.{Joined}
 use Rattle.hc_update.specs.Renewing.{IsCut, IsDoomed, IsRenewed}
 use Rattle.hc_update.specs.Updating.{IsSomeRoot, IsStop, IsUpdated, UpdateGets, updated_at}
-use Rattle.hc_update.proofs.Cuts.{ancestor-same, some-of}
+use Rattle.hc_update.proofs.Cuts.{ancestor-same, and-then, field-used, of-same}
+use Rattle.hc_update.proofs.Within.{joined-admits}
+use Rattle.hc_tree.specs.Dying.{IsDead}
 use Rattle.hc_update.proofs.Renewed.{after-cut, cut-ends, cut-key, cut-keys, cut-reading, renewed, renewed-kept}
 
 no-less-same : (a b : Shape) → b ≡ a → IsNoLess a b
@@ -50,22 +51,6 @@ shared-gate t m tree h = by (gate_in t m) refl h
     by : (o : Option GateWord) → gate_in t m ≡ o → IsSomeAnd o (λ g. g.is_private ≡ false) → gate_in t m ≡ Some (gate_with (count_of t m) false)
     by (Some g) is shared = subst (λ (n : ℕ). gate_in t m ≡ Some (gate_with n false)) (sym (ap entries_in is)) (parts g.entries g.is_private g.is_locked shared (tree.maps m g is).unlocked is)
     by None is shared = absurd shared
-
-field-used : UnusedSaysNothing → (v : View) → IsHeap v → (f : ℕ) → IsField v.trail f → f < v.used.fields
-field-used unused v heap f made =
-    let o = some-of (owner_in v.trail f) made.owner in
-    below f v.used.fields (λ le. let none : owner_in v.trail f ≡ None = unused v.used v.trail OwnerOfField f heap.used le in let n : None ≡ Some o.0 = sym none ∙ o.1 in let z : ⊥ = cc in z)
-  where
-    below : (a b : ℕ) → (b ≤ a → ⊥) → a < b
-    below a b h = omega (arith, h)
-
-of-same : (a b : Trail) (o : Option ℕ) → IsSomeAnd o (λ f. detail_in b f ≡ detail_in a f) → detail_of b o ≡ detail_of a o
-of-same a b (Some f) same = same
-of-same a b None same = absurd same
-
-and-then : (P Q : ℕ → Type 0) (o : Option ℕ) → IsSomeAnd o P → ((v : ℕ) → P v → Q v) → IsSomeAnd o Q
-and-then P Q (Some v) h f = f v h
-and-then P Q None h f = absurd h
 
 module _ (maps : MapsAreKept) (v u : View) (root end count stop m n : ℕ) (heap : IsHeap v) (ended : IsLiveEnd v.trail root m n end count) (stopped : IsStop v.trail end m count stop) (joined : AreJoined v u end m stop count n stop) (at_map : gate_in v.trail m ≡ Some (gate_with n false)) where
   joined-reading : {T : Type 0} (reading : Trail → T) → ((t : Trail) (f : ℕ) (d : Detail) → reading (FieldDetail f d ∷ t) ≡ reading t) → reading u.trail ≡ reading v.trail
@@ -187,17 +172,48 @@ module _ (maps : MapsAreKept) (v u : View) (root end count stop m n : ℕ) (heap
         same = sym (later-wanted h.place h.from h.within) ∙ h.same;
       })
 
+      all-writes : Adds (Reshapes v.used (IsDoomed v.trail end count stop) (UpdateGets v.trail end m count stop n v.used.fields)) v.trail x.trail
+      all-writes = adds-on
+          (adds-wider (λ t y e. reshapes-dies v.used NoMap (IsDoomed v.trail end count stop) (λ z h. absurd h) (UpdateGets v.trail end m count stop n v.used.fields) t y
+          (reshapes-later v.used v.used (no-less-same v.used v.used refl) NoMap (GetsJoin v.trail end m stop) (UpdateGets v.trail end m count stop n v.used.fields) (λ f d is. inl is) t y e)) joined.writes)
+          (adds-wider (λ t y e. reshapes-dies v.used (IsDoomed u.trail end count stop) (IsDoomed v.trail end count stop) doomed-then (UpdateGets v.trail end m count stop n v.used.fields) t y
+          (reshapes-later v.used u.used (no-less-same v.used u.used same-used) (IsDoomed u.trail end count stop) (GetsWanted (updated_at u.trail end m count) stop n u.used.fields) (UpdateGets v.trail end m count stop n v.used.fields) gets-new t y e)) ren.writes)
+
+      fields-there : (k : ℕ) → k < count → IsSomeAnd (field_at u.trail end k) (λ f. f < u.used.fields)
+      fields-there k lt =
+          let still = maps u.shape u.trail u.trail joined.heap.lawful (goes-still u.shape joined.heap.lawful) in
+          and-then (λ (f : ℕ). IsField u.trail f) (λ (f : ℕ). f < u.used.fields) (field_at u.trail end k) ((still.opened end (gate_with count false) end-gate).entries.fields k lt) (λ f made. field-used unused u joined.heap f made)
+
+      -- what fields got is there in the end
+      got : (f : ℕ) (d : Detail) → UpdateGets v.trail end m count stop n v.used.fields f d → detail_in x.trail f ≡ Some d
+      got f d h = ⊎_elim
+          (λ (raise : GetsJoin v.trail end m stop f d).
+          let upto = stopped.within in
+          let below = raise.within in
+          let here : field_at u.trail end raise.place ≡ Some f = same-field end raise.place ∙ raise.field in
+          let there : f < u.used.fields = at-some (λ (y : ℕ). y < u.used.fields) (field_at u.trail end raise.place) f here (fields-there raise.place (omega (arith, upto, below))) in
+          renewed-kept maps u w end count stop base joined.heap cut set (updated_at u.trail end m count) x m n c map-gate built-u f there
+          ∙ sym (ap (detail_of u.trail) here) ∙ joined.joined raise.place below ∙ raise.joined)
+          (λ (new : GetsWanted (updated_at v.trail end m count) stop n v.used.fields f d).
+          ren.details.gets f d (record {
+            place = new.place;
+            from = new.from;
+            within = new.within;
+            field = subst (λ (s : Shape). f + stop ≡ s.fields + new.place) (sym same-used) new.field;
+            same = later-wanted new.place new.from new.within ∙ new.same;
+          })) h
+        where
+          at-some : (P : ℕ → Type 0) (o : Option ℕ) (y : ℕ) → o ≡ Some y → IsSomeAnd o P → P y
+          at-some P o y is h = subst (λ (z : Option ℕ). IsSomeAnd z P) is h
+
       pub update-renewed : IsRenewed (UpdateGets v.trail end m count stop n v.used.fields) v x end count stop m n c
       update-renewed = record {
-        writes = adds-on
-            (adds-wider (λ t y e. reshapes-dies v.used NoMap (IsDoomed v.trail end count stop) (λ z h. absurd h) (UpdateGets v.trail end m count stop n v.used.fields) t y
-            (reshapes-later v.used v.used (no-less-same v.used v.used refl) NoMap (GetsJoin v.trail end m stop) (UpdateGets v.trail end m count stop n v.used.fields) (λ f d is. inl is) t y e)) joined.writes)
-            (adds-wider (λ t y e. reshapes-dies v.used (IsDoomed u.trail end count stop) (IsDoomed v.trail end count stop) doomed-then (UpdateGets v.trail end m count stop n v.used.fields) t y
-            (reshapes-later v.used u.used (no-less-same v.used u.used same-used) (IsDoomed u.trail end count stop) (GetsWanted (updated_at u.trail end m count) stop n u.used.fields) (UpdateGets v.trail end m count stop n v.used.fields) gets-new t y e)) ren.writes);
+        writes = all-writes;
         dead = λ y doomed there. ren.dead y (doomed-now y doomed) (subst (λ (o : Option GateWord). IsSome o) (sym (joined-reading (λ (t : Trail). gate_in t y) (λ t f d. refl))) there);
         opens = λ y g none gate shared parent. ren.opens y g (joined-reading (λ (t : Trail). gate_in t y) (λ t f d. refl) ∙ none) gate shared parent;
-        linked = λ y stable marked. ⊎_elim (λ (has : links_in x.trail y ≢ []). inl has) (λ (h : IsDoomed u.trail end count stop y). inr (doomed-then y h))
+        linked = λ y stable marked. ⊎_elim (λ (has : links_in x.trail y ≢ []). inl has) (λ (h : IsDead (IsDoomed u.trail end count stop) x.trail y). inr (doomed-then y h.0, h.1))
             (ren.linked y (ap (λ (b : MapBits). b.unstable) (joined-reading (λ (t : Trail). bits_in t y) (λ t f d. refl)) ∙ stable) marked);
+        spares = λ y doomed g gate. ren.spares y (doomed-now y doomed) g gate;
         maps = subst (λ (s : Shape). x.used.maps + stop ≡ s.maps + n) same-used ren.maps;
         entries = subst (λ (s : Shape). x.used.entries + arrays_upto stop ≡ s.entries + arrays_upto n) same-used ren.entries;
         fields = subst (λ (s : Shape). x.used.fields + stop ≡ s.fields + n) same-used ren.fields;
@@ -212,14 +228,10 @@ module _ (maps : MapsAreKept) (v u : View) (root end count stop m n : ℕ) (heap
         keys = λ k lt. ren.keys k lt ∙ same-key m k;
         owned = λ k from lt. subst (λ (s : Shape). IsOwnedFrom x.trail c k s.maps) same-used (ren.owned k from lt);
         shared = λ k lt. ren.shared k lt ∙ same-field end k;
+        details = details-by v.used (IsDoomed v.trail end count stop) (UpdateGets v.trail end m count stop n v.used.fields) all-writes got;
         tree = ren.tree;
         heap = ren.heap;
       }
-
-      fields-there : (k : ℕ) → k < count → IsSomeAnd (field_at u.trail end k) (λ f. f < u.used.fields)
-      fields-there k lt =
-          let still = maps u.shape u.trail u.trail joined.heap.lawful (goes-still u.shape joined.heap.lawful) in
-          and-then (λ (f : ℕ). IsField u.trail f) (λ (f : ℕ). f < u.used.fields) (field_at u.trail end k) ((still.opened end (gate_with count false) end-gate).entries.fields k lt) (λ f made. field-used unused u joined.heap f made)
 
       raised-detail : (k : ℕ) → k < stop → detail_at x.trail c k ≡ joined_at v.trail end m k
       raised-detail k lt =
@@ -238,6 +250,7 @@ module _ (maps : MapsAreKept) (v u : View) (root end count stop m n : ℕ) (heap
         stopped = stopped;
         renewed = update-renewed;
         details = λ k lt. by k lt (ltb k stop) refl;
+        admits = λ k was now lt is at. joined-admits (ltb k count) (detail_at v.trail end k) (detail_at v.trail m k) (detail_at x.trail c k) was now (by k lt (ltb k stop) refl) is at;
       }
         where
           by : (k : ℕ) → k < n → (b : Bool) → ltb k stop ≡ b → detail_at x.trail c k ≡ updated_at v.trail end m count k

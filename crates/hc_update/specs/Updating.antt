@@ -8,7 +8,7 @@ use Rattle.hc_tree.specs.Tree.{IsRoot}
 use Rattle.hc_tree.specs.Details.{detail_at, fits_at}
 use Rattle.hc_tree.specs.Walking.{GetsJoin, GetsWanted, IsLiveEnd, wanted_at}
 use Rattle.hc_tree.specs.declared.retarget.Wanted.TheVariants.{Joined}
-use Rattle.hc_update.specs.Renewing.{IsRenewed}
+use Rattle.hc_update.specs.Renewing.{AdmitMore, IsRenewed}
 
 -- a map is the root of some prototype
 pub record IsSomeRoot (t : Trail) (r : ℕ) : Type 0 where
@@ -41,3 +41,4 @@ pub record IsUpdated (old new : View) (root m n c : ℕ) : Type 0 where
   pub stopped : IsStop old.trail end m count stop
   pub renewed : IsRenewed (UpdateGets old.trail end m count stop n old.used.fields) old new end count stop m n c
   pub details : (k : ℕ) → k < n → detail_at new.trail c k ≡ updated_at old.trail end m count k
+  pub admits : AdmitMore old.trail new.trail m c n

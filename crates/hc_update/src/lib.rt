@@ -2,8 +2,8 @@
 #![tactic(auto)]
 
 mod cutting;
-mod generalise;
+mod outgrown;
 mod update;
 
-pub use generalise::generalise_shared;
-pub use update::updated;
+pub use outgrown::generalise;
+pub use update::{map_for, updated};

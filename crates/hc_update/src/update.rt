@@ -5,12 +5,16 @@ ghost use Rattle.hc_heap.specs.States.{Goes};
 ghost use Rattle.hc_descs.specs.Entries.{count_of};
 ghost use Rattle.hc_tree.specs.Tree.{IsTree, gate_with};
 ghost use Rattle.hc_tree.specs.Needs.{HasSpace, IsSpaceExact, walk_need};
-ghost use Rattle.hc_tree.specs.Growth.{IsUnmoved};
+ghost use Rattle.hc_tree.specs.Growth.{IsUnmoved, MayBePrototype};
+ghost use Rattle.hc_tree.specs.Walking.{AreRoots, shared_need};
+ghost use Rattle.hc_update.specs.Retargeting.{HasMapFor};
 ghost use Rattle.hc_update.specs.Updating.{IsSomeRoot, IsStop, IsUpdated};
 
 use crate::cutting::cut;
 use hc_heap::{Heap, Pace, Space, gates_are_open, set_is_kept, unused_says_nothing};
-use hc_tree::{Wanted, admit_all, build, detail_at, has_space, live_end, maps_are_kept, of_walk};
+use hc_tree::{
+    Wanted, admit_all, build, detail_at, has_space, live_end, maps_are_kept, of_walk, root,
+};
 use hc_value::{in_place, join};
 
 /// The live shared map that stands under a root for a shared map: it has the map's keys, and its fields admit what the map's
@@ -32,6 +36,32 @@ pub fn updated<P: Pace>(h: &mut Heap<P>, map: u32, root: u32) -> Result<u32, Spa
         return Err(Space);
     }
     Ok(renew(h, root, map, n))
+}
+
+/// The live shared map with the n keys of a shared map and a prototype, whose root is made where there is none. Maps that are missing
+/// are made, for which there is room. For the map's own prototype it is the live map in its place.
+pub fn map_for<P: Pace>(
+    h: &mut Heap<P>,
+    map: u32,
+    n: u32,
+    proto: Option<u32>,
+    of_null: &mut Option<u32>,
+) -> u32
+    requires tree { IsTree h.old.view.trail }
+    requires roots { AreRoots h.old.view.trail of_null.old }
+    requires map { gate_in h.old.view.trail map ≡ Some (gate_with n false) }
+    requires proto { MayBePrototype h.old.view.used h.old.view.trail proto }
+    requires space { HasSpace h.old.view (shared_need h.old.view.trail n proto of_null.old) }
+    ensures found { HasMapFor h.old.view h.new.view of_null.old of_null.new map result n proto }
+    ensures goes { Goes h.old.desk h.new.desk }
+    ensures went { P.went h.old.pace h.old.desk.trail h.new.desk.trail h.new.pace }
+{
+    maps_are_kept();
+    h.stands();
+    let Ok(root) = root(h, proto, of_null) else {
+        unreachable!()
+    };
+    renew(h, root, map, n)
 }
 
 // Updates a map with n entries, for which there is room.

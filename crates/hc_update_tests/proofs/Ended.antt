@@ -149,3 +149,7 @@ shared-of o n is = subst (λ (x : Option GateWord). IsSomeAnd x (λ g. g.is_priv
 -- the end of a branch is shared, later on too
 pub end-shared : MapsAreKept → {P : Trail → Write → Type 0} (old new : View) (m n : ℕ) → new.shape ≡ old.shape → Adds P old.trail new.trail → IsHeap new → IsEnd old m n → IsSomeAnd (gate_in new.trail m) (λ g. g.is_private ≡ false)
 end-shared law {P} old new m n shape writes heap h = shared-of (gate_in new.trail m) n ((later law old new shape writes h.heap heap).written.gate m (gate_with n false) h.gate)
+
+-- a map with so many entries has each of them
+pub entry-of : (o : Option GateWord) (n i : ℕ) (private : Bool) → o ≡ Some (gate_with n private) → i < n → IsSomeAnd o (λ g. i < g.entries)
+entry-of o n i private is lt = subst (λ (x : Option GateWord). IsSomeAnd x (λ g. i < g.entries)) (sym is) lt

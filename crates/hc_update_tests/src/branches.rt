@@ -8,8 +8,8 @@ ghost use Rattle.hc_update_tests.specs.Branches.{ChildrenStay, IsBranch, IsEnd, 
 use bitflags::Flags;
 use hc_heap::{Free, Heap, Space};
 use hc_layout::{Region, Shape};
-use hc_tree::{child_or_make, deprecate, detail_at, maps_are_kept, root};
-use hc_update::{generalise_shared, updated};
+use hc_tree::{child_or_make, deprecate, detail_at, maps_are_kept, private_copy, root};
+use hc_update::{generalise, updated};
 use hc_value::{Attrs, Class, Constness, Detail, Key, Kind, Rep};
 use std::test::Fail;
 
@@ -135,7 +135,7 @@ fn outcome(
     beside(heap, second, 2, before);
     let third = next(heap, second, 2, before)?;
     let maps = heap.used(Region::Maps);
-    let Ok(map) = generalise_shared(heap, third, 3, i, given) else {
+    let Ok(map) = generalise(heap, third, i, given) else {
         return None;
     };
     let made = heap.used(Region::Maps).saturating_sub(maps);
@@ -175,6 +175,56 @@ fn a_field_that_grows_wide_or_out_of_wide_is_made_anew(rt: HostRuntime) -> Resul
     for (before, i, given, expected) in table {
         let mut heap = Heap::new(rt.alloc(), Shape::usual(), Free)?;
         assert!(rt; outcome(&mut heap, before, i, given) == Some(expected));
+    }
+    Ok(())
+}
+
+// Of a private copy of a branch of three, with fields of its own, the field of an entry is to admit more. The answer is how many maps
+// died, how many were made, how many fields were, and the representation of the entry's new field.
+fn alone(
+    heap: &mut Heap<Free>,
+    before: Detail,
+    i: u32,
+    given: Detail,
+) -> Option<(u32, u32, u32, Rep)>
+    requires tree { IsTree heap.old.view.trail }
+    requires entry { i < 3 }
+    requires before { IsPlain before }
+    requires given { IsPlain given }
+{
+    let mut of_null = None;
+    let Ok(root) = root(heap, None, &mut of_null) else {
+        return None;
+    };
+    let (_, third) = branch(heap, root, before, before, before)?;
+    let Ok(own) = private_copy(heap, third, true, None, None) else {
+        return None;
+    };
+    if heap.bits(own).deprecated {
+        return None;
+    }
+    let maps = heap.used(Region::Maps);
+    let fields = heap.used(Region::Fields);
+    let Ok(map) = generalise(heap, own, i, given) else {
+        return None;
+    };
+    let made = heap.used(Region::Maps).saturating_sub(maps);
+    let fields = heap.used(Region::Fields).saturating_sub(fields);
+    let now = detail_at(heap, map, i);
+    Some((dead(heap), made, fields, now.rep))
+}
+
+#[test]
+fn a_private_map_dies_alone(rt: HostRuntime) -> Result<(), Fail> {
+    let table = [
+        (SMALL, 0, WIDE, (1, 1, 1, Rep::Wide)),
+        (SMALL, 2, WIDE, (1, 1, 1, Rep::Wide)),
+        (WIDE, 1, OBJECT, (1, 1, 1, Rep::Tagged)),
+        (WIDE, 2, SMALL, (1, 1, 1, Rep::Wide)),
+    ];
+    for (before, i, given, expected) in table {
+        let mut heap = Heap::new(rt.alloc(), Shape::usual(), Free)?;
+        assert!(rt; alone(&mut heap, before, i, given) == Some(expected));
     }
     Ok(())
 }

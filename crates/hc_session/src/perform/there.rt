@@ -41,8 +41,8 @@ fn is_proto_there(proto: Option<u32>, count: u32) -> bool
     }
 }
 
-// Whether the object that a value names is one of so many, if it names one.
-fn is_value_there(value: Value, count: u32) -> bool
+/// Whether the object that a value names is one of so many, if it names one.
+pub fn is_value_there(value: Value, count: u32) -> bool
     ensures { result ≡ names_among count value }
 {
     match value {

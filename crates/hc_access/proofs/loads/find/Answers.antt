@@ -1,4 +1,4 @@
-use Rattle.std.proofs.Common.{◌≡◌, sym, ap, ◌∙◌}
+use Rattle.std.proofs.Common.{sym, ap, ◌∙◌}
 use Rattle.hc_modes.specs.State.{ObjectsState}
 use Rattle.hc_access.specs.Ways.{way_to}
 use Rattle.hc_access.proofs.Lookups.{way-none, way-some}

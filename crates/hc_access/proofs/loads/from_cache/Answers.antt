@@ -1,4 +1,4 @@
-use Rattle.std.proofs.Common.{◌≡◌, ℕ, Option, sym, ap, ◌∙◌, subst}
+use Rattle.std.proofs.Common.{Option, sym, ap, ◌∙◌, subst}
 use Rattle.hc_table.specs.World.{World}
 use Rattle.hc_sites.specs.declared.cached.Cached.{Cached}
 use Rattle.hc_access.specs.Ways.{IsWayThere, reply_by, way_for}

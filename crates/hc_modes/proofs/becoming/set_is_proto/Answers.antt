@@ -4,7 +4,7 @@ use Rattle.hc_heap.specs.Writes.{Root}
 use Rattle.hc_heap.specs.Lawful.{LawfulRoot}
 use Rattle.hc_heap.specs.Readings.{root_in}
 use Rattle.hc_heap.specs.States.{View, HeapState, IsHeap}
-use Rattle.hc_modes.specs.Narrow.{IsNarrowTree}
+use Rattle.hc_tree.specs.Tree.{IsTree}
 use Rattle.hc_modes.specs.Becoming.{with_proto}
 use Rattle.hc_modes.proofs.Prototypes.{proto-lawful, proto-tree-on}
 use Rattle.hc_modes.proofs.becoming.set_is_proto.Goals as goal
@@ -28,4 +28,4 @@ returns-clause-tree g c =
     ∙ ap (λ (s : HeapState g.row.P.Denot). let w : View = record s.view { trail = Root o (record { is_proto = true; map = c.object_root-root.result.map }) ∷ s.view.trail } in w) c.object_root-root.ensures.new
     ∙ ap (λ (r : RootWord). let w : View = record v { trail = Root o (record { is_proto = true; map = r.map }) ∷ v.trail } in w) c.object_root-root.ensures.value in
     let heap = subst IsHeap is c.set_object_root.ensures.heap in
-    subst (λ (w : View). IsNarrowTree w.trail) (sym is) (proto-tree-on c.narrow_trees_stay.ensures.law v c.stands.ensures.heap o heap.lawful c.requires.tree)
+    subst (λ (w : View). IsTree w.trail) (sym is) (proto-tree-on c.trees_stay.ensures.law v c.stands.ensures.heap o heap.lawful c.requires.tree)

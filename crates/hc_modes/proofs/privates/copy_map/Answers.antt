@@ -6,7 +6,6 @@ use Rattle.hc_tree.specs.Copying.{CopyGets}
 use Rattle.hc_tree.specs.Details.{DetailsAre}
 use Rattle.hc_modes.proofs.Gets.{marked-copy}
 use Rattle.hc_modes.proofs.Copied.{IsMade, copied-from, marked-last}
-use Rattle.hc_modes.proofs.Narrowing.{copied-tree}
 use Rattle.hc_modes.proofs.Owning.{open-used}
 use Rattle.hc_slots.specs.Cases.{some-of}
 use Rattle.hc_modes.proofs.privates.copy_map.Goals as goal
@@ -31,7 +30,7 @@ returns-clause-copied g c =
       used = c.in-Ok.ensures.used;
       writes = c.in-Ok.ensures.writes;
       shape = c.in-Ok.ensures.shape;
-      tree = copied-tree c.args.fresh c.args.more c.args.h.now.view c.mark_unstable.new.h.view c.private_copy.new.h.view c.args.map c.mark_unstable.ensures.view c.requires.tree c.requires.narrow c.in-Ok.ensures.details c.in-Ok.ensures.tree;
+      tree = c.in-Ok.ensures.tree;
       heap = c.in-Ok.ensures.heap;
     }))
 

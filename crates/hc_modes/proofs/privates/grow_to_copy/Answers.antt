@@ -1,5 +1,5 @@
 use Rattle.std.proofs.Common.{arith, ◌≡◌, ◌∙◌, ℕ, false, true, ap, sym, subst, Some}
-use Rattle.std.specs.Prelude.{IsSome}
+use Rattle.std.specs.Prelude.{IsSome, IsTrue}
 use Rattle.hc_heap.specs.Writes.{ObjectMap}
 use Rattle.hc_heap.specs.Lawful.{LawfulObjectMap}
 use Rattle.hc_heap.specs.Readings.{gate_in, prototype_in}
@@ -22,8 +22,10 @@ use Rattle.hc_modes.specs.Admitting.{held_detail}
 use Rattle.hc_modes.specs.Details.{GrownGets}
 use Rattle.hc_modes.proofs.Gets.{details-as, details-on, fitted-detail}
 use Rattle.hc_modes.proofs.GrownAlone.{capacity-then, grow-lawful, grown-alone, handed-then, may-be-prototype, out-then, room-then, unstable-then}
+use Rattle.hc_value.specs.Field.{is_detail_within}
 use Rattle.hc_value.specs.declared.field.Detail.{Detail}
-use Rattle.hc_tree.specs.Tree.{IsNarrow}
+use Rattle.hc_modes.proofs.Asked.{detail-same}
+use Rattle.hc_modes.proofs.Fitting.{may-hold}
 use Rattle.hc_modes.proofs.privates.grow_to_copy.Goals as goal
 
 pub unwrap-proto-requires : goal.unwrap-proto-requires
@@ -55,11 +57,10 @@ copy_map-copy-requires-clause-more g c =
       there = c.entry_for-entry.ensures.there;
     }))
 
-some-narrow : (a e : Key × Detail) → IsNarrow a.1 → Some a ≡ Some e → IsNarrow e.1
-some-narrow a e narrow is = let same : a ≡ e = cc in subst (λ (x : Key × Detail). IsNarrow x.1) same narrow
-
-pub copy_map-copy-requires-clause-narrow : goal.copy_map-copy-requires-clause-narrow
-copy_map-copy-requires-clause-narrow g c e is = some-narrow c.entry_for-entry.result e c.entry_for-entry.ensures.narrow is
+pub held_word-word-requires-clause-fits : goal.held_word-word-requires-clause-fits
+held_word-word-requires-clause-fits g c =
+    let d = c.entry_for-entry.result.1 in
+    may-hold c.args.h.now.view.trail c.args.p.held Const d (subst (λ (e : Detail). IsTrue (is_detail_within e d)) c.entry_for-entry.ensures.detail (detail-same d))
 
 pub fill_next-requires : goal.fill_next-requires
 fill_next-requires g c =
@@ -74,11 +75,11 @@ fill_next-requires g c =
     (subst (λ (k : Key). IsCopied false (Some (k, d)) proto c.proto.new.self.view w c.args.map) c.entry_for-entry.ensures.key c.copy_map-copy.ensures.copied) in
     record {
       few = c.requires.few;
-      capacity = capacity-then c.maps_are_kept.ensures.law c.details_rise.ensures.law c.narrow_trees_stay.ensures.law c.unused_says_nothing.ensures.law proto v w c.args.object c.args.map c.args.n c.args.p d c.stands.ensures.heap it c.requires.has fast is c.entry_for-entry.ensures.narrow c.entry_for-entry.ensures.detail;
-      out = out-then c.maps_are_kept.ensures.law c.details_rise.ensures.law c.narrow_trees_stay.ensures.law c.unused_says_nothing.ensures.law proto v w c.args.object c.args.map c.args.n c.args.p d c.stands.ensures.heap it c.requires.has fast is c.entry_for-entry.ensures.narrow c.entry_for-entry.ensures.detail c.requires.out;
-      handed = handed-then c.maps_are_kept.ensures.law c.details_rise.ensures.law c.narrow_trees_stay.ensures.law c.unused_says_nothing.ensures.law proto v w c.args.object c.args.map c.args.n c.args.p d c.stands.ensures.heap it c.requires.has fast is c.entry_for-entry.ensures.narrow c.entry_for-entry.ensures.detail c.requires.handed;
-      unstable = unstable-then c.maps_are_kept.ensures.law c.details_rise.ensures.law c.narrow_trees_stay.ensures.law c.unused_says_nothing.ensures.law proto v w c.args.object c.args.map c.args.n c.args.p d c.stands.ensures.heap it c.requires.has fast is c.entry_for-entry.ensures.narrow c.entry_for-entry.ensures.detail;
-      room = room-then c.maps_are_kept.ensures.law c.details_rise.ensures.law c.narrow_trees_stay.ensures.law c.unused_says_nothing.ensures.law proto v w c.args.object c.args.map c.args.n c.args.p d c.stands.ensures.heap it c.requires.has fast is c.entry_for-entry.ensures.narrow c.entry_for-entry.ensures.detail c.requires.space;
+      capacity = capacity-then c.maps_are_kept.ensures.law c.details_rise.ensures.law c.trees_stay.ensures.law c.unused_says_nothing.ensures.law proto v w c.args.object c.args.map c.args.n c.args.p d c.stands.ensures.heap it c.requires.has fast is c.entry_for-entry.ensures.detail;
+      out = out-then c.maps_are_kept.ensures.law c.details_rise.ensures.law c.trees_stay.ensures.law c.unused_says_nothing.ensures.law proto v w c.args.object c.args.map c.args.n c.args.p d c.stands.ensures.heap it c.requires.has fast is c.entry_for-entry.ensures.detail c.requires.out;
+      handed = handed-then c.maps_are_kept.ensures.law c.details_rise.ensures.law c.trees_stay.ensures.law c.unused_says_nothing.ensures.law proto v w c.args.object c.args.map c.args.n c.args.p d c.stands.ensures.heap it c.requires.has fast is c.entry_for-entry.ensures.detail c.requires.handed;
+      unstable = unstable-then c.maps_are_kept.ensures.law c.details_rise.ensures.law c.trees_stay.ensures.law c.unused_says_nothing.ensures.law proto v w c.args.object c.args.map c.args.n c.args.p d c.stands.ensures.heap it c.requires.has fast is c.entry_for-entry.ensures.detail;
+      room = room-then c.maps_are_kept.ensures.law c.details_rise.ensures.law c.trees_stay.ensures.law c.unused_says_nothing.ensures.law proto v w c.args.object c.args.map c.args.n c.args.p d c.stands.ensures.heap it c.requires.has fast is c.entry_for-entry.ensures.detail c.requires.space;
     }
 
 pub set_object_map-requires-clause-lawful : goal.set_object_map-requires-clause-lawful
@@ -95,7 +96,7 @@ set_object_map-requires-clause-lawful g c =
     (subst (λ (k : Key). IsCopied false (Some (k, d)) proto c.proto.new.self.view w c.args.map) c.entry_for-entry.ensures.key c.copy_map-copy.ensures.copied) in
     let number = subst (λ (y : View). c.copy_map-copy.result ≡ y.used.maps) read c.copy_map-copy.ensures.number in
     subst (λ (k : ℕ). LawfulObjectMap x.shape x.trail c.args.object (Some k)) (sym number)
-    (grow-lawful c.maps_are_kept.ensures.law c.details_rise.ensures.law c.narrow_trees_stay.ensures.law c.unused_says_nothing.ensures.law proto v w c.args.object c.args.map c.args.n c.args.p d c.stands.ensures.heap it c.requires.has fast is c.entry_for-entry.ensures.narrow c.entry_for-entry.ensures.detail
+    (grow-lawful c.maps_are_kept.ensures.law c.details_rise.ensures.law c.trees_stay.ensures.law c.unused_says_nothing.ensures.law proto v w c.args.object c.args.map c.args.n c.args.p d c.stands.ensures.heap it c.requires.has fast is c.entry_for-entry.ensures.detail
     x c.held_word-word.result c.fill_next.ensures.heap c.fill_next.ensures.fitted (omega (arith, c.fill_next.ensures.fitted.more)) c.fill_next.ensures.last c.held_word-word.ensures.form c.held_word-word.ensures.holds)
 
 pub returns-clause-grown : goal.returns-clause-grown
@@ -114,7 +115,7 @@ returns-clause-grown g c =
     let view : c.set_object_map.new.self.view ≡ with_write x (ObjectMap c.args.object (Some v.used.maps)) =
     subst (λ (k : ℕ). c.set_object_map.new.self.view ≡ with_write x (ObjectMap c.args.object (Some k))) number c.set_object_map.ensures.view in
     subst (λ (y : View). IsGrownAlone v y c.args.object c.args.map c.args.n c.args.p) (sym view)
-    (grown-alone c.maps_are_kept.ensures.law c.details_rise.ensures.law c.narrow_trees_stay.ensures.law c.unused_says_nothing.ensures.law proto v w c.args.object c.args.map c.args.n c.args.p d c.stands.ensures.heap it c.requires.has fast is c.entry_for-entry.ensures.narrow c.entry_for-entry.ensures.detail
+    (grown-alone c.maps_are_kept.ensures.law c.details_rise.ensures.law c.trees_stay.ensures.law c.unused_says_nothing.ensures.law proto v w c.args.object c.args.map c.args.n c.args.p d c.stands.ensures.heap it c.requires.has fast is c.entry_for-entry.ensures.detail
     x c.held_word-word.result c.fill_next.ensures.heap c.fill_next.ensures.fitted (omega (arith, c.fill_next.ensures.fitted.more)) c.fill_next.ensures.last c.held_word-word.ensures.form c.held_word-word.ensures.holds (subst IsHeap view c.set_object_map.ensures.heap))
 
 pub returns-clause-went : goal.returns-clause-went

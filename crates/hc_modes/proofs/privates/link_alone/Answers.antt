@@ -28,7 +28,7 @@ set_object_map-requires-clause-lawful g c =
     let w = c.copy_map-copy.new.h.view in
     let fast : IsFast v.trail c.args.object c.args.map (gate_with c.args.n true) = record { is_open = c.requires.open; holds = c.requires.holds; private = sym c.requires.private } in
     subst (λ (x : ℕ). LawfulObjectMap w.shape w.trail c.args.object (Some x)) (sym c.copy_map-copy.ensures.number)
-    (copy-lawful c.maps_are_kept.ensures.law c.details_rise.ensures.law c.narrow_trees_stay.ensures.law c.unused_says_nothing.ensures.law false c.args.proto v w c.args.object c.args.map (gate_with c.args.n true) c.stands.ensures.heap c.copy_map-copy.ensures.copied c.requires.has fast)
+    (copy-lawful c.maps_are_kept.ensures.law c.details_rise.ensures.law c.trees_stay.ensures.law c.unused_says_nothing.ensures.law false c.args.proto v w c.args.object c.args.map (gate_with c.args.n true) c.stands.ensures.heap c.copy_map-copy.ensures.copied c.requires.has fast)
 
 pub returns-clause-linked : goal.returns-clause-linked
 returns-clause-linked g c = λ yes.
@@ -38,7 +38,7 @@ returns-clause-linked g c = λ yes.
     let is : c.set_object_map.new.self.view ≡ with_write w (ObjectMap c.args.object (Some v.used.maps)) =
     subst (λ (x : ℕ). c.set_object_map.new.self.view ≡ with_write w (ObjectMap c.args.object (Some x))) c.copy_map-copy.ensures.number c.set_object_map.ensures.view in
     subst (λ (x : View). IsMovedToCopy false v x c.args.object c.args.map c.args.n c.args.proto) (sym is)
-    (moved-to-copy c.maps_are_kept.ensures.law c.details_rise.ensures.law c.narrow_trees_stay.ensures.law c.unused_says_nothing.ensures.law false c.args.proto v w c.args.object c.args.map (gate_with c.args.n true) c.stands.ensures.heap c.copy_map-copy.ensures.copied c.requires.has fast (subst IsHeap is c.set_object_map.ensures.heap))
+    (moved-to-copy c.maps_are_kept.ensures.law c.details_rise.ensures.law c.trees_stay.ensures.law c.unused_says_nothing.ensures.law false c.args.proto v w c.args.object c.args.map (gate_with c.args.n true) c.stands.ensures.heap c.copy_map-copy.ensures.copied c.requires.has fast (subst IsHeap is c.set_object_map.ensures.heap))
 
 pub returns-clause-details : goal.returns-clause-details
 returns-clause-details g c =

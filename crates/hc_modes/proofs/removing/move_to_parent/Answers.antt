@@ -1,8 +1,6 @@
 use Rattle.std.proofs.Common.{Some, sym, subst}
 use Rattle.hc_heap.specs.Lawful.{LawfulObjectMap}
 use Rattle.hc_heap.specs.States.{View}
-use Rattle.hc_tree.specs.Tree.{IsTree}
-use Rattle.hc_modes.proofs.Narrowing.{marked-tree}
 use Rattle.hc_modes.proofs.Shrinking.{parent-lawful}
 use Rattle.hc_modes.proofs.removing.move_to_parent.Goals as goal
 
@@ -11,6 +9,3 @@ set_object_map-requires-clause-lawful g c =
     let v = c.args.h.now.view in
     subst (λ (w : View). LawfulObjectMap w.shape w.trail c.args.object (Some c.args.parent)) (sym c.mark_unstable.ensures.view)
     (parent-lawful v.shape v.trail c.args.object c.args.map c.args.parent c.requires.has c.requires.shared c.requires.parent_there c.requires.filled)
-
-pub returns-clause-marked_tree : goal.returns-clause-marked_tree
-returns-clause-marked_tree g c = marked-tree c.args.h.now.view.trail c.args.map (subst (λ (x : View). IsTree x.trail) c.mark_unstable.ensures.view c.mark_unstable.ensures.tree) c.requires.tree

@@ -1,6 +1,6 @@
 use Rattle.std.proofs.Common.{ℕ, Option, length, refl, sym, ap, subst, arith}
 use Rattle.hc_objects.specs.Following.{IsInvalidatedAt}
-use Rattle.hc_objects.proofs.Alone.{alone-none}
+use Rattle.hc_objects.proofs.Alone.{alone-faithful, alone-none}
 use Rattle.hc_objects.proofs.Standing.{invalidated-some}
 use Rattle.hc_objects.proofs.Told.{count-told}
 use Rattle.hc_objects.proofs.following.invalidate_at.Goals as goal
@@ -25,3 +25,6 @@ returns-clause-invalidated g c =
     let b = c.invalidate.new.self in
     subst (λ (at : Option ℕ). IsInvalidatedAt g.P.Pace.went a at b) (sym c.in-Some.is)
     (invalidated-some g.P.Pace.went a b c.in-Some.o c.args.protos.now c.requires.told c.invalidate.ensures.only c.stands-2.ensures.sound c.invalidate.ensures.after c.invalidate.ensures.writes c.invalidate.ensures.view)
+
+pub returns-clause-faithful : goal.returns-clause-faithful
+returns-clause-faithful g c = alone-faithful g.P.Pace.went c.args.inside.now c.invalidate.new.self c.invalidate.ensures.only c.requires.faithful

@@ -4,13 +4,21 @@ use Rattle.std.proofs.Common.{ℕ}
 use Rattle.std.proofs.lemmas.Result.{on_err_weaker, on_ok_weaker}
 use Rattle.hc_table.specs.Changes.{Moved}
 use Rattle.hc_table.specs.World.{World}
+use Rattle.hc_heap.specs.Writes.{Trail}
+use Rattle.hc_modes.specs.Admitting.{IsHonest}
 use Rattle.hc_modes.specs.Laws.{still-on}
+use Rattle.hc_modes.specs.State.{ObjectsState}
 use Rattle.hc_objects.specs.Changes.{AltersSlow, did_of}
-use Rattle.hc_objects.proofs.Applying.{sound-still, still-came, still-map}
+use Rattle.hc_objects.proofs.Applied.{sound-still, still-came, still-map}
 use Rattle.hc_objects.proofs.Moving.{change-kept, there-after}
 use Rattle.hc_objects.proofs.Restricting.{world-still}
 use Rattle.hc_objects.proofs.Told.{count-world}
 use Rattle.hc_objects.proofs.performing.change_object.Goals as goal
+
+pub perform-done-requires-2-clause-honest : goal.perform-done-requires-2-clause-honest
+perform-done-requires-2-clause-honest g c =
+    let still = still-on c.args.inside.now c.map_of-before.new.self c.alters_slow-altered.new.inside c.map_of-before.ensures.still c.alters_slow-altered.ensures.still in
+    subst (λ (t : Trail). IsHonest t) (sym (ap (λ (s : ObjectsState g.row.P.Denot). s.heap.view.trail) still.is)) c.requires.honest
 
 pub map_of-now-requires : goal.map_of-now-requires
 map_of-now-requires g c =

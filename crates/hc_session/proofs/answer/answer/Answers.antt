@@ -6,6 +6,7 @@ use Rattle.hc_session.specs.Plain.{answer_text}
 use Rattle.hc_session.specs.State.{answer_since}
 use Rattle.hc_session.proofs.Declares.{number_left}
 use Rattle.hc_session.proofs.NamedWorlds.{numbers_held, replies_show, tables_keep}
+use Rattle.hc_session.proofs.Sited.{names_keep, no_two_more}
 use Rattle.hc_session.proofs.answer.answer.Goals as goal
 
 pub command-requires-clause-numbers : goal.command-requires-clause-numbers
@@ -15,10 +16,16 @@ pub command-requires-clause-room : goal.command-requires-clause-room
 command-requires-clause-room g c = number_left _ _ c.requires.sites
 
 pub render_answer-requires : goal.render_answer-requires
-render_answer-requires g c = record { named = replies_show _ _ _ _ _ c.in-Ok.ensures.done.answers c.requires.world c.requires.command }
+render_answer-requires g c = record { named = replies_show _ _ _ _ _ c.in-Ok.ensures.done.answers c.requires.world c.requires.named c.requires.command }
 
 pub returns-in-Ok-write_piece-clause-world : goal.returns-in-Ok-write_piece-clause-world
-returns-in-Ok-write_piece-clause-world g c = tables_keep _ _ _ _ _ c.in-Ok.ensures.done.answers c.requires.world c.requires.command
+returns-in-Ok-write_piece-clause-world g c = tables_keep _ _ _ _ _ c.in-Ok.ensures.done.answers c.requires.world c.requires.named c.requires.command
+
+pub returns-in-Ok-write_piece-clause-named : goal.returns-in-Ok-write_piece-clause-named
+returns-in-Ok-write_piece-clause-named g c = names_keep _ _ _ _ _ c.in-Ok.ensures.done _ c.requires.command c.requires.named
+
+pub returns-in-Ok-write_piece-clause-sites : goal.returns-in-Ok-write_piece-clause-sites
+returns-in-Ok-write_piece-clause-sites g c = no_two_more _ _ _ _ _ c.in-Ok.ensures.done
 
 -- what holds where a result is Ok
 where_ok : {A B : Type 0} (r : Result A B) (P : Type 0) → is_ok r ≡ true → OnOk r P → P

@@ -6,6 +6,8 @@ use Rattle.hc_script.specs.declared.reader.Phase.TheVariants.{Going}
 use Rattle.hc_session.specs.Named.{IsNamedWorld}
 use Rattle.hc_session.specs.Progress.{Progress}
 use Rattle.hc_session.specs.Replay.{the_first_place}
+use Rattle.hc_session.specs.Serving.{AreNamedSites}
+use Rattle.hc_session.specs.Standing.{plain_of}
 use Rattle.hc_session.specs.State.{Does, any_pace}
 use Rattle.hc_session.proofs.replaying.replay_lines.Given as goal
 
@@ -20,6 +22,7 @@ invariant-commands g l =
       progress : Progress (Does any_pace) (the_first_place l.initial.session) (left l.initial.source) (taken l.initial.sink)
           l.reader.at l.session (ahead l.reader.pending (left l.source)) (taken l.sink);
       named : IsNamedWorld (length l.reader.at.names) (world_of l.session.objects);
+      sited : AreNamedSites (length l.reader.at.names) (plain_of l.session).sites;
       sites : length l.session.sites ≤ l.reader.at.bytes;
       reads : g.S.Source.faults l.initial.source ≤ g.S.Source.faults l.source;
       writes : g.K.Sink.faults l.initial.sink ≤ g.K.Sink.faults l.sink;

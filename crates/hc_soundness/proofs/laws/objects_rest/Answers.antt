@@ -7,7 +7,7 @@ returns c = record {
     items = h.items;
     each = h.each;
     sound = h.sound.sound;
-    one_live = λ m g is. (h.tree.tree.maps m g is).live;
+    one_live = λ m g is. (h.tree.maps m g is).live;
     calm = calm;
   };
 }

@@ -1,19 +1,21 @@
-use Rattle.std.proofs.Common.{◌≡◌, ◌∙◌, ℕ, ◌<◌, ap, sym, subst, refl, arith, Option, Some, None}
+use Rattle.std.proofs.Common.{◌≡◌, ◌∙◌, ℕ, ◌<◌, ap, sym, subst, refl, arith, Option, Some, None, true≢false}
 use Rattle.std.specs.Prelude.{IsSomeAnd}
 use Rattle.hc_layout.specs.declared.words.GateWord.{GateWord}
 use Rattle.hc_value.specs.declared.field.Detail.{Detail}
-use Rattle.hc_heap.specs.Readings.{detail_in, gate_in}
+use Rattle.hc_layout.specs.declared.words.MapBits.{MapBits}
+use Rattle.hc_heap.specs.Readings.{bits_in, detail_in, gate_in}
+use Rattle.hc_heap.specs.Writes.{Trail}
 use Rattle.hc_heap.specs.States.{View}
 use Rattle.hc_heap.specs.Kept.{Adds}
 use Rattle.hc_heap.specs.Frames.{adds-none, adds-on, adds-wider}
 use Rattle.hc_descs.specs.Entries.{count_of, entries_in, field_at}
 use Rattle.hc_fields.specs.Fields.{raised}
-use Rattle.hc_tree.specs.Frames.{details-by, reshapes-dies}
+use Rattle.hc_tree.specs.Frames.{details-by, details-same, reshapes-dies}
 use Rattle.hc_tree.specs.Details.{ChildGets, DetailsAre, NoMap, Reshapes, child_detail, detail_at, joined_with}
-use Rattle.hc_tree.specs.Dying.{IsOutgrown, OutgrownFor}
+use Rattle.hc_tree.specs.Dying.{IsOutgrown, MarksOnly, OutgrownFor}
 use Rattle.hc_tree.specs.Growth.{AskGets, EndsWith, asked_detail, fitting_child, live_child, marked}
 use Rattle.hc_tree.proofs.Instead.{IsFitting, fitting-at, fitting-found}
-use Rattle.hc_tree.proofs.Joins.{Raised, raised-field, raised-child, raised-live, raised-ends, raised-gets, raised-got}
+use Rattle.hc_tree.proofs.Joins.{Raised, raised-writes, raised-field, raised-child, raised-live, raised-ends, raised-gets, raised-got}
 use Rattle.hc_tree.proofs.Opened.{child-space, marked-gets}
 use Rattle.hc_tree.proofs.children.child_or_make.Goals as goal
 
@@ -162,6 +164,28 @@ returns-in-Some-clause-details g c =
     subst (λ (o : Option ℕ). DetailsAre (G o) v.trail w.trail) (sym it.is)
     (details-by v.used (OutgrownFor v.trail m key d) (G (Some child)) writes (raised-got c.maps_are_kept.ensures.law v w m child n key d c.stands.ensures.heap c.admit.ensures.heap up it.found.gate it.found.child wanted got v.used.fields))
 
+pub returns-in-Some-clause-marks : goal.returns-in-Some-clause-marks
+returns-in-Some-clause-marks g c =
+    let v = c.args.h.now.view in
+    let m = c.args.map in
+    let key = c.args.key in
+    let d = c.args.detail in
+    let n = count_of v.trail m in
+    let read : c.gate.new.self.view ≡ v = ap (λ s. s.view) c.gate.ensures.new in
+    let second : c.live-known.new.h.view ≡ v = ap (λ s. s.view) c.live-known.ensures.same ∙ read in
+    let same : c.fitting.new.h.view ≡ v = ap (λ s. s.view) c.fitting.ensures.same ∙ second in
+    let count : c.unwrap-n.result.entries ≡ n = ap entries_in (sym c.unwrap-n.ensures ∙ c.gate.ensures.value) in
+    let fit : c.fitting.result ≡ fitting_child v.trail m key d = fitting-at v c.gate.new.self.view c.live-known.new.h.view m c.unwrap-n.result.entries key d c.live-known.result c.fitting.result read second count c.live-known.ensures.live c.fitting.ensures.fits in
+    let child = c.in-Some.child in
+    let it : IsFitting v.trail m child key d = fitting-found c.same_keys_are_equal.ensures.law v m child key d (sym fit ∙ c.in-Some.is) c.requires.tree c.requires.open in
+    let w = c.admit.new.h.view in
+    let up : Raised v w child n d = raised-field v w child n d
+    (subst (λ (k : ℕ). IsSomeAnd (field_at v.trail child k) (λ f. w ≡ record v { trail = raised v.trail f d })) count
+    (subst (λ (x : View). IsSomeAnd (field_at x.trail child c.unwrap-n.result.entries) (λ f. w ≡ record x { trail = raised x.trail f d })) same c.admit.ensures.view)) in
+    λ x stable now.
+    let bits : bits_in w.trail x ≡ bits_in v.trail x = ap (λ (y : View). bits_in y.trail x) up.view ∙ details-same v.trail (raised v.trail up.field d) (λ (t : Trail). bits_in t x) (λ t f e. refl) (raised-writes v.trail up.field d) in
+    absurd (true≢false (sym now ∙ (ap (λ (y : MapBits). y.unstable) bits ∙ stable)))
+
 pub returns-in-Some-clause-went : goal.returns-in-Some-clause-went
 returns-in-Some-clause-went g c =
     let on = g.met.P.Pace.goes_on in
@@ -260,3 +284,20 @@ returns-clause-details g c =
     (subst (λ (y : View). detail_in x.trail y.used.fields ≡ Some (child_detail y.trail c.live-known.result c.unwrap-n.result.entries d)) same c.make_instead.ensures.detail)) in
     subst (λ (o : Option ℕ). DetailsAre (ChildGets v.trail o n wanted v.used.fields) v.trail x.trail) (sym none)
     (details-by v.used Dies G writes (λ f e at. ap (detail_in x.trail) at.0 ∙ (got ∙ ap (λ (y : Detail). Some y) (sym at.1))))
+
+pub returns-clause-marks : goal.returns-clause-marks
+returns-clause-marks g c =
+    let v = c.args.h.now.view in
+    let m = c.args.map in
+    let key = c.args.key in
+    let d = c.args.detail in
+    let n = count_of v.trail m in
+    let read : c.gate.new.self.view ≡ v = ap (λ s. s.view) c.gate.ensures.new in
+    let second : c.live-known.new.h.view ≡ v = ap (λ s. s.view) c.live-known.ensures.same ∙ read in
+    let same : c.fitting.new.h.view ≡ v = ap (λ s. s.view) c.fitting.ensures.same ∙ second in
+    let count : c.unwrap-n.result.entries ≡ n = ap entries_in (sym c.unwrap-n.ensures ∙ c.gate.ensures.value) in
+    let x = c.make_instead.new.h.view in
+    let live : c.live-known.result ≡ live_child v.trail m key = c.live-known.ensures.live ∙ ap (λ (y : View). live_child y.trail m key) read in
+    subst (λ (o : Option ℕ). MarksOnly m (IsOutgrown v.trail o n d) v.trail x.trail) live
+    (subst (λ (k : ℕ). MarksOnly m (IsOutgrown v.trail c.live-known.result k d) v.trail x.trail) count
+    (subst (λ (y : View). MarksOnly m (IsOutgrown y.trail c.live-known.result c.unwrap-n.result.entries d) y.trail x.trail) same c.make_instead.ensures.marks))

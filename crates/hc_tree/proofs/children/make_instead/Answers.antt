@@ -14,7 +14,7 @@ use Rattle.hc_tree.specs.Frames.{reshapes-dies}
 use Rattle.hc_tree.proofs.Begun.{open-handed}
 use Rattle.hc_tree.proofs.Joins.{IsFound, found-at}
 use Rattle.hc_tree.proofs.Opened.{found-dead}
-use Rattle.hc_tree.proofs.Instead.{child-may, count-w, dead-w, died-by, grows-w, joins-known, lacks-w, live-w, outgrown-is, outgrown-under, there-w, under-dead, used-w}
+use Rattle.hc_tree.proofs.Instead.{child-may, count-w, dead-w, died-by, grows-w, joins-known, lacks-w, live-w, marks-alone, marks-instead, outgrown-is, outgrown-under, there-w, under-dead, used-w}
 use Rattle.hc_tree.proofs.Wants.{class-join}
 use Rattle.hc_tree.proofs.children.make_instead.Goals as goal
 
@@ -166,3 +166,21 @@ returns-clause-dead g c =
     let goes = goes-on-of w.shape c.make_child-2.ensures.writes (subst (λ (s : Shape). Lawful s x.trail) c.make_child-2.ensures.shape c.make_child-2.ensures.heap.lawful) in
     λ y out there. (c.set_is_kept.ensures.law w.shape w.trail x.trail goes).deprecated y
     (under-dead c.maps_are_kept.ensures.law v u m child c.args.key c.stands.ensures.heap it marks c.mark_unstable.ensures.heap c.same_keys_are_equal.ensures.law w c.mark_unstable.ensures.tree c.deprecate.ensures.dies y (outgrown-under v.trail c.args.known child c.args.n c.args.detail y c.in-Some.is out) there)
+
+pub returns-in_default-clause-marks : goal.returns-in_default-clause-marks
+returns-in_default-clause-marks g c =
+    let v = c.args.h.now.view in
+    marks-alone (IsOutgrown v.trail c.args.known c.args.n c.args.detail) v.used c.args.map v.trail c.make_child.new.h.view.trail c.make_child.ensures.writes
+
+pub returns-clause-marks : goal.returns-clause-marks
+returns-clause-marks g c =
+    let v = c.args.h.now.view in
+    let u = c.mark_unstable.new.h.view in
+    let w = c.deprecate.new.h.view in
+    let m = c.args.map in
+    let child = c.in-Some.child in
+    let it : IsFound v.trail m child c.args.key = found-at c.same_keys_are_equal.ensures.law v v m child c.args.key c.args.known refl c.requires.known c.in-Some.is c.requires.tree c.requires.open in
+    let read : c.detail_at-own.new.h.view ≡ v = ap (λ (s : HeapState g.row.P.Denot). s.view) c.detail_at-own.ensures.same in
+    let marks : u ≡ record v { trail = marked v.trail m } = c.mark_unstable.ensures.view ∙ ap (λ (x : View). record x { trail = marked x.trail m }) read in
+    marks-instead c.maps_are_kept.ensures.law v u m child c.args.key c.stands.ensures.heap it marks c.mark_unstable.ensures.heap c.same_keys_are_equal.ensures.law w c.mark_unstable.ensures.tree c.deprecate.ensures.dies
+    (IsOutgrown v.trail c.args.known c.args.n c.args.detail) w.used c.make_child-2.new.h.view (outgrown-is v.trail c.args.known child c.args.n c.args.detail c.in-Some.is c.requires.outgrown) c.make_child-2.ensures.writes

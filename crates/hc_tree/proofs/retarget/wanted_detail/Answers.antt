@@ -12,9 +12,6 @@ use Rattle.hc_tree.proofs.Made.{some-with}
 use Rattle.hc_tree.proofs.Wants.{joined-admits, own-admits, with-admits}
 use Rattle.hc_tree.proofs.retarget.wanted_detail.Goals as goal
 
-pub returns-in-Same-clause-admits : goal.returns-in-Same-clause-admits
-returns-in-Same-clause-admits g c = own-admits c.args.h.now.view c.args.map c.args.k (gate_with c.args.n false) c.detail_at-own.result c.requires.tree c.requires.map c.requires.entry c.detail_at-own.ensures.value c.detail_at-own.ensures.form c.detail_at-own.ensures.there
-
 pub returns-else-k-first-clause-admits : goal.returns-else-k-first-clause-admits
 returns-else-k-first-clause-admits g c = own-admits c.args.h.now.view c.args.map c.args.k (gate_with c.args.n false) c.detail_at-own.result c.requires.tree c.requires.map c.requires.entry c.detail_at-own.ensures.value c.detail_at-own.ensures.form c.detail_at-own.ensures.there
 

@@ -1,6 +1,7 @@
-use Rattle.std.proofs.Common.{◌≡◌, ◌∙◌, Some, true, refl, ap, sym, subst}
+use Rattle.std.specs.Prelude.{IsTrue}
+use Rattle.std.proofs.Common.{◌≡◌, ◌∙◌, Some, true, true≢false, refl, ap, sym, subst}
 use Rattle.hc_descs.specs.Entries.{entries_in}
-use Rattle.hc_modes.specs.Details.{AddedGets, DetailsAre, GrownGets}
+use Rattle.hc_modes.specs.Details.{AddKills, AddedGets, DetailsAre, GrownGets}
 use Rattle.hc_modes.proofs.Gets.{added-gets}
 use Rattle.hc_modes.proofs.Facts.{alone-facts}
 use Rattle.hc_heap.specs.Readings.{gate_in, root_in}
@@ -13,8 +14,8 @@ use Rattle.hc_modes.proofs.AddingAlone.{call-alone-sound, call-alone-world, call
 use Rattle.hc_modes.proofs.Linking.{call-owner}
 use Rattle.hc_modes.proofs.Shown.{fast-has}
 use Rattle.hc_modes.specs.Privates.{IsGrownAlone}
-use Rattle.hc_modes.specs.Rest.{Marks}
-use Rattle.hc_modes.proofs.Marking.{alone-marks}
+use Rattle.hc_modes.specs.Rest.{MarksBut}
+use Rattle.hc_modes.proofs.Marking.{alone-marks, marks-none}
 use Rattle.hc_modes.proofs.objects.Objects.add_private.Goals as goal
 
 pub map_of-map-requires : goal.map_of-map-requires
@@ -60,7 +61,7 @@ invariant_of-self g c =
     let read : c.map_of-map.new.h.view ≡ c.self.inside.heap.view = ap (λ (s : HeapState g.row.P.Denot). s.view) c.map_of-map.ensures.new in
     let again : c.gate.new.self.view ≡ c.map_of-map.new.h.view = ap (λ (s : HeapState g.row.P.Denot). s.view) c.gate.ensures.new in
     let gate : gate_in c.map_of-map.new.h.view.trail c.map_of-map.result ≡ Some c.unwrap-gate.result = sym c.gate.ensures.value ∙ c.unwrap-gate.ensures in
-    call-alone-sound _ _ c.args.o c.self.view_is c.self.invariant c.requires.object c.requires.fast c.requires.private c.map_of-map.new.h.view c.gate.new.self.view c.map_of-map.result c.unwrap-gate.result read again c.map_of-map.ensures.map gate c.args.p c.maps_are_kept.ensures.law c.details_rise.ensures.law c.narrow_trees_stay.ensures.law c.unused_says_nothing.ensures.law c.grow_alone.new.h.view c.changes_keep.ensures.law c.requires.absent c.requires.proper c.grow_alone.result c.grow_alone.ensures.grown
+    call-alone-sound _ _ c.args.o c.self.view_is c.self.invariant c.requires.object c.requires.fast c.requires.private c.map_of-map.new.h.view c.gate.new.self.view c.map_of-map.result c.unwrap-gate.result read again c.map_of-map.ensures.map gate c.args.p c.maps_are_kept.ensures.law c.details_rise.ensures.law c.trees_stay.ensures.law c.unused_says_nothing.ensures.law c.grow_alone.new.h.view c.changes_keep.ensures.law c.requires.absent c.requires.proper c.grow_alone.result c.grow_alone.ensures.grown
     (λ no. ap (λ (s : HeapState g.row.P.Denot). s.view) (c.grow_alone.ensures.still no))
 
 pub returns-clause-added : goal.returns-clause-added
@@ -72,7 +73,7 @@ returns-clause-added g c = λ yes.
     let after : ObjectsState g.row.P.Denot = record { heap = c.grow_alone.new.h; kept = c.self.inside.kept.items; of_null = c.self.inside.of_null } in
     let on = g.met.P.Pace.goes_on in
     subst (λ (s : ObjectsState g.row.P.Denot). Steps g.P.Pace.went s (Added c.args.o c.args.p) after) c.self.view_is (record {
-      world = call-alone-world _ _ c.args.o c.self.view_is c.self.invariant c.requires.object c.requires.fast c.requires.private c.map_of-map.new.h.view c.gate.new.self.view c.map_of-map.result c.unwrap-gate.result read again c.map_of-map.ensures.map gate c.args.p c.maps_are_kept.ensures.law c.details_rise.ensures.law c.narrow_trees_stay.ensures.law c.unused_says_nothing.ensures.law c.grow_alone.new.h.view grown;
+      world = call-alone-world _ _ c.args.o c.self.view_is c.self.invariant c.requires.object c.requires.fast c.requires.private c.map_of-map.new.h.view c.gate.new.self.view c.map_of-map.result c.unwrap-gate.result read again c.map_of-map.ensures.map gate c.args.p c.maps_are_kept.ensures.law c.details_rise.ensures.law c.trees_stay.ensures.law c.unused_says_nothing.ensures.law c.grow_alone.new.h.view grown;
       shape = grown.changed.shape ∙ ap (λ (w : View). w.shape) (again ∙ read);
       goes = goes-on c.self.inside.heap.desk c.map_of-map.new.h.desk c.grow_alone.new.h.desk c.map_of-map.ensures.goes
           (goes-on c.map_of-map.new.h.desk c.gate.new.self.desk c.grow_alone.new.h.desk c.gate.ensures.goes c.grow_alone.ensures.goes);
@@ -94,8 +95,10 @@ returns-clause-marks g c = λ yes.
     let m = c.map_of-map.result in
     let n = c.unwrap-gate.result.entries in
     let same : c.gate.new.self.view ≡ v = ap (λ (s : HeapState g.row.P.Denot). s.view) c.gate.ensures.new ∙ ap (λ (s : HeapState g.row.P.Denot). s.view) c.map_of-map.ensures.new in
-    subst (λ (s : ObjectsState g.row.P.Denot). Marks s.heap.view.trail w.trail c.args.o) c.self.view_is
-    (alone-marks v w c.args.o m n c.args.p c.map_of-map.ensures.map (subst (λ (x : View). IsGrownAlone x w c.args.o m n c.args.p) same (c.grow_alone.ensures.grown yes)))
+    let own : IsTrue (root_in v.trail c.args.o).is_proto = subst (λ (s : ObjectsState g.row.P.Denot). IsTrue (root_in s.heap.view.trail c.args.o).is_proto) (sym c.self.view_is) c.requires.private in
+    subst (λ (s : ObjectsState g.row.P.Denot). MarksBut (AddKills s.heap.view s.kept c.args.o c.args.p) s.heap.view.trail w.trail c.args.o) c.self.view_is
+    (marks-none (AddKills v c.self.inside.kept.items c.args.o c.args.p) c.args.o (λ x kills. true≢false (sym own ∙ kills.shared))
+    (alone-marks v w c.args.o m n c.args.p c.map_of-map.ensures.map (subst (λ (x : View). IsGrownAlone x w c.args.o m n c.args.p) same (c.grow_alone.ensures.grown yes))))
 
 pub returns-clause-details : goal.returns-clause-details
 returns-clause-details g c = λ yes.

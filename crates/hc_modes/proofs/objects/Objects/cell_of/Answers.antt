@@ -39,7 +39,7 @@ invariant_of-self g c =
     let null = c.self.inside.of_null in
     let x = c.cell_of.new.h.view in
     let it : IsCelled v x = is-celled v x c.args.o c.cell_of.result c.cell_of.ensures.named c.cell_of.ensures.made c.cell_of.ensures.none in
-    celled-sound c.maps_are_kept.ensures.law c.details_rise.ensures.law c.narrow_trees_stay.ensures.law v x kept null c.self.invariant it.writes c.cell_of.ensures.heap it.shape it.used
+    celled-sound c.maps_are_kept.ensures.law c.details_rise.ensures.law c.trees_stay.ensures.law v x kept null c.self.invariant it.writes c.cell_of.ensures.heap it.shape it.used
 
 pub returns-clause-only : goal.returns-clause-only
 returns-clause-only g c =
@@ -51,11 +51,11 @@ returns-clause-only g c =
     let after : ObjectsState g.row.P.Denot = record { heap = c.cell_of.new.h; kept = kept; of_null = null } in
     subst (λ (s : ObjectsState g.row.P.Denot). OnlyCells g.P.Pace.went s after) c.self.view_is (record {
       steps = record {
-        world = celled-world c.maps_are_kept.ensures.law c.details_rise.ensures.law c.narrow_trees_stay.ensures.law v x kept null c.self.invariant it.writes c.cell_of.ensures.heap it.shape it.used;
+        world = celled-world c.maps_are_kept.ensures.law c.details_rise.ensures.law c.trees_stay.ensures.law v x kept null c.self.invariant it.writes c.cell_of.ensures.heap it.shape it.used;
         shape = it.shape;
         goes = c.cell_of.ensures.goes;
         went = c.cell_of.ensures.went;
-        keeps = celled-facts c.maps_are_kept.ensures.law c.details_rise.ensures.law c.narrow_trees_stay.ensures.law v x kept null c.self.invariant it.writes c.cell_of.ensures.heap it.shape it.used c.honest_after.ensures.law c.kept_is_carried.ensures.law;
+        keeps = celled-facts c.maps_are_kept.ensures.law c.details_rise.ensures.law c.trees_stay.ensures.law v x kept null c.self.invariant it.writes c.cell_of.ensures.heap it.shape it.used c.honest_after.ensures.law c.kept_is_carried.ensures.law;
       };
       writes = it.writes;
       used = it.used;

@@ -38,13 +38,13 @@ set_object_map-requires-clause-lawful g c =
     let then = c.root.new.of_null in
     let r = c.in-Ok.root in
     let e = c.in-Ok.ensures in
-    let it : IsRooted v w null then proto r = is-rooted c.self.inside.heap c.root.new.h null then proto r e.root e.still e.null_still e.made e.null e.null_root e.used e.shape e.tree e.heap c.self.invariant.tree.narrow in
+    let it : IsRooted v w null then proto r = is-rooted c.self.inside.heap c.root.new.h null then proto r e.root e.still e.null_still e.made e.null e.null_root e.used e.shape e.tree e.heap in
     let there : o < length kept = within _ _ o c.self.view_is c.requires.object in
     let cause : cause_in kept o ≡ Some Space = subst (λ (s : ObjectsState g.row.P.Denot). cause_in s.kept o ≡ Some Space) (sym c.self.view_is) c.requires.slow in
     let d = some-of (kept_of kept o) (cause-some kept o Space cause) in
     let none : map_in v.trail o ≡ None = slow-none v kept null c.self.invariant o there d.0 d.1 in
     let shared : (root_in v.trail o).is_proto ≡ false = subst (λ (s : ObjectsState g.row.P.Denot). (root_in s.heap.view.trail o).is_proto ≡ false) (sym c.self.view_is) c.requires.shared in
-    enter-lawful c.maps_are_kept.ensures.law c.details_rise.ensures.law c.narrow_trees_stay.ensures.law c.unused_says_nothing.ensures.law v w kept null then proto o r c.self.invariant it none shared
+    enter-lawful c.maps_are_kept.ensures.law c.details_rise.ensures.law c.trees_stay.ensures.law c.unused_says_nothing.ensures.law v w kept null then proto o r c.self.invariant it none shared
 
 pub invariant_of-self-2 : goal.invariant_of-self-2
 invariant_of-self-2 g c =
@@ -57,7 +57,7 @@ invariant_of-self-2 g c =
     let then = c.root.new.of_null in
     let r = c.in-Ok.root in
     let e = c.in-Ok.ensures in
-    let it : IsRooted v w null then proto r = is-rooted c.self.inside.heap c.root.new.h null then proto r e.root e.still e.null_still e.made e.null e.null_root e.used e.shape e.tree e.heap c.self.invariant.tree.narrow in
+    let it : IsRooted v w null then proto r = is-rooted c.self.inside.heap c.root.new.h null then proto r e.root e.still e.null_still e.made e.null e.null_root e.used e.shape e.tree e.heap in
     let there : o < length kept = within _ _ o c.self.view_is c.requires.object in
     let cause : cause_in kept o ≡ Some Space = subst (λ (s : ObjectsState g.row.P.Denot). cause_in s.kept o ≡ Some Space) (sym c.self.view_is) c.requires.slow in
     let d = some-of (kept_of kept o) (cause-some kept o Space cause) in
@@ -66,7 +66,7 @@ invariant_of-self-2 g c =
     let moved = c.set_object_map.ensures.view in
     let heap : IsHeap (with_write w (ObjectMap o (Some r))) = subst IsHeap moved c.set_object_map.ensures.heap in
     let value : object (world v.trail kept) o ≡ new_object proto = subst (λ (s : ObjectsState g.row.P.Denot). object (world_of s) o ≡ new_object proto) (sym c.self.view_is) c.requires.value in
-    subst (λ (x : View). IsObjects x (set kept o None) then) (sym moved) (enter-sound c.maps_are_kept.ensures.law c.details_rise.ensures.law c.narrow_trees_stay.ensures.law c.unused_says_nothing.ensures.law v w kept null then proto o r c.self.invariant it none shared heap there value)
+    subst (λ (x : View). IsObjects x (set kept o None) then) (sym moved) (enter-sound c.maps_are_kept.ensures.law c.details_rise.ensures.law c.trees_stay.ensures.law c.unused_says_nothing.ensures.law v w kept null then proto o r c.self.invariant it none shared heap there value)
 
 stays-put : (root : Option ℕ) (e : NoSpace) → Stays root (Err e)
 stays-put (Some m) e = tt
@@ -101,7 +101,7 @@ returns g c =
     let then = c.root.new.of_null in
     let r = c.in-Ok.root in
     let e = c.in-Ok.ensures in
-    let it : IsRooted v w null then proto r = is-rooted c.self.inside.heap c.root.new.h null then proto r e.root e.still e.null_still e.made e.null e.null_root e.used e.shape e.tree e.heap c.self.invariant.tree.narrow in
+    let it : IsRooted v w null then proto r = is-rooted c.self.inside.heap c.root.new.h null then proto r e.root e.still e.null_still e.made e.null e.null_root e.used e.shape e.tree e.heap in
     let there : o < length kept = within _ _ o c.self.view_is c.requires.object in
     let cause : cause_in kept o ≡ Some Space = subst (λ (s : ObjectsState g.row.P.Denot). cause_in s.kept o ≡ Some Space) (sym c.self.view_is) c.requires.slow in
     let d = some-of (kept_of kept o) (cause-some kept o Space cause) in
@@ -116,18 +116,18 @@ returns g c =
     record {
       entered = subst (λ (s : ObjectsState g.row.P.Denot). IsEntered g.P.Pace.went s o proto after) c.self.view_is (record {
         steps = record {
-          world = subst (λ (x : View). world x.trail now ≡ world v.trail kept) (sym moved) (enter-world c.maps_are_kept.ensures.law c.details_rise.ensures.law c.narrow_trees_stay.ensures.law c.unused_says_nothing.ensures.law v w kept null then proto o r c.self.invariant it none shared heap there value);
+          world = subst (λ (x : View). world x.trail now ≡ world v.trail kept) (sym moved) (enter-world c.maps_are_kept.ensures.law c.details_rise.ensures.law c.trees_stay.ensures.law c.unused_says_nothing.ensures.law v w kept null then proto o r c.self.invariant it none shared heap there value);
           shape = ap (λ (x : View). x.shape) moved ∙ it.shape;
           goes = goes-on c.self.inside.heap.desk c.root.new.h.desk c.set_object_map.new.self.desk c.root.ensures.goes c.set_object_map.ensures.goes;
           went = g.met.P.Pace.goes_on _ _ _ _ _ _ c.root.ensures.went c.set_object_map.ensures.went;
-          keeps = subst (λ (x : View). FactsStay v.shape v.trail x.trail) (sym moved) (enter-facts c.maps_are_kept.ensures.law c.details_rise.ensures.law c.narrow_trees_stay.ensures.law c.unused_says_nothing.ensures.law v w kept null then proto o r c.self.invariant it none shared heap c.forms_are_kept.ensures.law c.honest_after.ensures.law c.kept_is_carried.ensures.law);
+          keeps = subst (λ (x : View). FactsStay v.shape v.trail x.trail) (sym moved) (enter-facts c.maps_are_kept.ensures.law c.details_rise.ensures.law c.trees_stay.ensures.law c.unused_says_nothing.ensures.law v w kept null then proto o r c.self.invariant it none shared heap c.forms_are_kept.ensures.law c.honest_after.ensures.law c.kept_is_carried.ensures.law);
         };
         mode = subst (λ (x : Option Cause). StaysFast (HasSpace v (root_need (root_of v.trail proto null))) x) (sym fast) (record { stays = (λ e. c.in-Ok.ensures.space, λ s. refl); leaves = tt });
         used = ap (λ (x : View). x.used) moved ∙ it.used ∙ ap (λ (x : Option Cause). with_need (if_fast x (root_need (root_of v.trail proto null))) v.used) (sym fast);
-        protos = λ q. subst (λ (x : View). (root_in x.trail q).is_proto ≡ (root_in v.trail q).is_proto) (sym moved) (enter-proto c.maps_are_kept.ensures.law c.details_rise.ensures.law c.narrow_trees_stay.ensures.law c.unused_says_nothing.ensures.law v w kept null then proto o r c.self.invariant it none shared heap q);
+        protos = λ q. subst (λ (x : View). (root_in x.trail q).is_proto ≡ (root_in v.trail q).is_proto) (sym moved) (enter-proto c.maps_are_kept.ensures.law c.details_rise.ensures.law c.trees_stay.ensures.law c.unused_says_nothing.ensures.law v w kept null then proto o r c.self.invariant it none shared heap q);
         others = kept-set kept o None;
         none = none;
-        marks = subst (λ (x : View). Marks v.trail x.trail o) (sym moved) (enter-marks c.maps_are_kept.ensures.law c.details_rise.ensures.law c.narrow_trees_stay.ensures.law c.unused_says_nothing.ensures.law v w kept null then proto o r c.self.invariant it none shared heap);
+        marks = subst (λ (x : View). Marks v.trail x.trail o) (sym moved) (enter-marks c.maps_are_kept.ensures.law c.details_rise.ensures.law c.trees_stay.ensures.law c.unused_says_nothing.ensures.law v w kept null then proto o r c.self.invariant it none shared heap);
         details = λ f. ap (λ (x : View). detail_in x.trail f) moved ∙ enter-details v w null then proto o r it f;
       });
     }

@@ -50,7 +50,7 @@ invariant_of-self g c =
     let shape : x.shape ≡ v.shape = ap (λ (w : View). w.shape) view in
     let used : x.used ≡ record v.used { cells = x.used.cells } = used-kept v x (ap (λ (w : View). w.used) view) in
     let writes : Adds WritesCells v.trail x.trail = adds-wider (invalid-cells v.trail c.args.protos.now c.args.o) c.invalidate.ensures.writes in
-    celled-sound c.maps_are_kept.ensures.law c.details_rise.ensures.law c.narrow_trees_stay.ensures.law v x kept null c.self.invariant writes c.invalidate.ensures.heap shape used
+    celled-sound c.maps_are_kept.ensures.law c.details_rise.ensures.law c.trees_stay.ensures.law v x kept null c.self.invariant writes c.invalidate.ensures.heap shape used
 
 pub returns-clause-only : goal.returns-clause-only
 returns-clause-only g c =
@@ -65,11 +65,11 @@ returns-clause-only g c =
     let after : ObjectsState g.row.P.Denot = record { heap = c.invalidate.new.h; kept = kept; of_null = null } in
     subst (λ (s : ObjectsState g.row.P.Denot). OnlyCells g.P.Pace.went s after) c.self.view_is (record {
       steps = record {
-        world = celled-world c.maps_are_kept.ensures.law c.details_rise.ensures.law c.narrow_trees_stay.ensures.law v x kept null c.self.invariant writes c.invalidate.ensures.heap shape used;
+        world = celled-world c.maps_are_kept.ensures.law c.details_rise.ensures.law c.trees_stay.ensures.law v x kept null c.self.invariant writes c.invalidate.ensures.heap shape used;
         shape = shape;
         goes = c.invalidate.ensures.goes;
         went = c.invalidate.ensures.went;
-        keeps = celled-facts c.maps_are_kept.ensures.law c.details_rise.ensures.law c.narrow_trees_stay.ensures.law v x kept null c.self.invariant writes c.invalidate.ensures.heap shape used c.honest_after.ensures.law c.kept_is_carried.ensures.law;
+        keeps = celled-facts c.maps_are_kept.ensures.law c.details_rise.ensures.law c.trees_stay.ensures.law v x kept null c.self.invariant writes c.invalidate.ensures.heap shape used c.honest_after.ensures.law c.kept_is_carried.ensures.law;
       };
       writes = writes;
       used = used;

@@ -5,7 +5,7 @@ use Rattle.hc_heap.specs.Readings.{map_in}
 use Rattle.hc_heap.specs.Frames.{goes-on}
 use Rattle.hc_heap.specs.States.{View, HeapState, IsHeap}
 use Rattle.hc_tree.specs.Growth.{marked, IsUnmoved}
-use Rattle.hc_modes.specs.Narrow.{IsNarrowTree}
+use Rattle.hc_tree.specs.Tree.{IsTree}
 use Rattle.hc_table.specs.Changes.{Moved}
 use Rattle.hc_table.specs.World.{object}
 use Rattle.hc_modes.specs.Came.{Steps, world_of}
@@ -52,7 +52,7 @@ leave_map-requires-clause-there g c =
     let again : c.map_of-map.new.h.view ≡ v = ap (λ (s : HeapState g.row.P.Denot). s.view) c.map_of-map.ensures.new in
     let m = c.map_of-map.result in
     let is_map : map_in v.trail o ≡ Some m = c.map_of-map.ensures.map in
-    subst (λ (w : View). m < w.used.maps) (sym again) (map-used c.maps_are_kept.ensures.law c.details_rise.ensures.law c.narrow_trees_stay.ensures.law c.unused_says_nothing.ensures.law v kept null c.self.invariant o there fast m is_map)
+    subst (λ (w : View). m < w.used.maps) (sym again) (map-used c.maps_are_kept.ensures.law c.details_rise.ensures.law c.trees_stay.ensures.law c.unused_says_nothing.ensures.law v kept null c.self.invariant o there fast m is_map)
 
 pub index_mut-requires : goal.index_mut-requires
 index_mut-requires g c =
@@ -79,9 +79,9 @@ invariant_of-self g c =
     let new = c.leave_map.new.h.view in
     let d = c.args.slow in
     let is : new ≡ record v { trail = ObjectMap o None ∷ marked v.trail m } = c.leave_map.ensures.view ∙ ap (λ (w : View). let x : View = record w { trail = ObjectMap o None ∷ marked w.trail m } in x) again in
-    let marked_tree : IsNarrowTree (marked v.trail m) = subst (λ (w : View). IsNarrowTree (marked w.trail m)) again c.leave_map.ensures.marked_tree in
+    let marked_tree : IsTree (marked v.trail m) = subst (λ (w : View). IsTree (marked w.trail m)) again c.leave_map.ensures.marked_tree in
     let marked_heap : IsHeap (record v { trail = marked v.trail m }) = subst (λ (w : View). IsHeap (record w { trail = marked w.trail m })) again c.leave_map.ensures.marked_heap in
-    left-sound c.maps_are_kept.ensures.law c.details_rise.ensures.law c.narrow_trees_stay.ensures.law c.unused_says_nothing.ensures.law v kept null c.self.invariant o there fast m is_map d value new is marked_tree marked_heap c.leave_map.ensures.heap
+    left-sound c.maps_are_kept.ensures.law c.details_rise.ensures.law c.trees_stay.ensures.law c.unused_says_nothing.ensures.law v kept null c.self.invariant o there fast m is_map d value new is marked_tree marked_heap c.leave_map.ensures.heap
 
 pub returns-clause-moved : goal.returns-clause-moved
 returns-clause-moved g c =
@@ -98,7 +98,7 @@ returns-clause-moved g c =
     let new = c.leave_map.new.h.view in
     let d = c.args.slow in
     let is : new ≡ record v { trail = ObjectMap o None ∷ marked v.trail m } = c.leave_map.ensures.view ∙ ap (λ (w : View). let x : View = record w { trail = ObjectMap o None ∷ marked w.trail m } in x) again in
-    let marked_tree : IsNarrowTree (marked v.trail m) = subst (λ (w : View). IsNarrowTree (marked w.trail m)) again c.leave_map.ensures.marked_tree in
+    let marked_tree : IsTree (marked v.trail m) = subst (λ (w : View). IsTree (marked w.trail m)) again c.leave_map.ensures.marked_tree in
     let marked_heap : IsHeap (record v { trail = marked v.trail m }) = subst (λ (w : View). IsHeap (record w { trail = marked w.trail m })) again c.leave_map.ensures.marked_heap in
     let first = c.self.inside.heap in
     let last = c.map_of-map.new.h in
@@ -107,11 +107,11 @@ returns-clause-moved g c =
     let loads : first.desk.loads ≤ last.desk.loads = omega (arith, one) in
     let then : ObjectsState g.row.P.Denot = record { heap = c.leave_map.new.h; kept = set kept o (Some d); of_null = null } in
     subst (λ (s : ObjectsState g.row.P.Denot). Steps g.P.Pace.went s Moved then) c.self.view_is (record {
-      world = left-world c.maps_are_kept.ensures.law c.details_rise.ensures.law c.narrow_trees_stay.ensures.law c.unused_says_nothing.ensures.law v kept null c.self.invariant o there fast m is_map d value new is marked_tree marked_heap c.leave_map.ensures.heap;
+      world = left-world c.maps_are_kept.ensures.law c.details_rise.ensures.law c.trees_stay.ensures.law c.unused_says_nothing.ensures.law v kept null c.self.invariant o there fast m is_map d value new is marked_tree marked_heap c.leave_map.ensures.heap;
       shape = ap (λ (w : View). w.shape) is;
       goes = goes-on first.desk last.desk c.leave_map.new.h.desk (unmoved-goes first last unmoved loads) c.leave_map.ensures.goes;
       went = g.met.P.Pace.goes_on _ _ _ _ _ _ (unmoved-went g.P.Pace.went g.met.P.Pace.stays first last unmoved) c.leave_map.ensures.went;
-      keeps = left-facts c.maps_are_kept.ensures.law c.details_rise.ensures.law c.narrow_trees_stay.ensures.law c.unused_says_nothing.ensures.law v kept null c.self.invariant o there fast m is_map d value new is marked_tree marked_heap c.leave_map.ensures.heap
+      keeps = left-facts c.maps_are_kept.ensures.law c.details_rise.ensures.law c.trees_stay.ensures.law c.unused_says_nothing.ensures.law v kept null c.self.invariant o there fast m is_map d value new is marked_tree marked_heap c.leave_map.ensures.heap
           c.forms_are_kept.ensures.law c.stable_is_kept.ensures.law c.honest_after.ensures.law c.kept_is_carried.ensures.law;
     })
 

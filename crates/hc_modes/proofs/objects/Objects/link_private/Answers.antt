@@ -9,7 +9,9 @@ use Rattle.hc_modes.specs.Came.{Steps}
 use Rattle.hc_modes.specs.State.{ObjectsState}
 use Rattle.hc_modes.proofs.Linking.{call-link-sound, call-link-world, call-may-be, call-owner}
 use Rattle.hc_modes.proofs.Shown.{fast-has}
-use Rattle.hc_modes.specs.Rest.{Relinks}
+use Rattle.hc_tree.specs.Details.{NoMap}
+use Rattle.hc_modes.specs.Rest.{DeathsAre, Relinks}
+use Rattle.hc_modes.proofs.Sparing.{no-deaths}
 use Rattle.hc_modes.specs.Privates.{IsMovedToCopy}
 use Rattle.hc_modes.proofs.Marking.{copied-relink}
 use Rattle.hc_modes.proofs.objects.Objects.link_private.Goals as goal
@@ -95,3 +97,13 @@ returns-clause-details g c = λ yes.
     let same : c.gate.new.self.view ≡ v = ap (λ (s : HeapState g.row.P.Denot). s.view) c.gate.ensures.new ∙ ap (λ (s : HeapState g.row.P.Denot). s.view) c.map_of-map.ensures.new in
     subst (λ (s : ObjectsState g.row.P.Denot). DetailsAre GetsNothing s.heap.view.trail w.trail) c.self.view_is
     (subst (λ (x : View). DetailsAre GetsNothing x.trail w.trail) same (c.link_alone.ensures.details yes))
+
+pub returns-clause-deaths : goal.returns-clause-deaths
+returns-clause-deaths g c = λ yes.
+    let v = c.self.inside.heap.view in
+    let w = c.link_alone.new.h.view in
+    let m = c.map_of-map.result in
+    let n = c.unwrap-gate.result.entries in
+    let same : c.gate.new.self.view ≡ v = ap (λ (s : HeapState g.row.P.Denot). s.view) c.gate.ensures.new ∙ ap (λ (s : HeapState g.row.P.Denot). s.view) c.map_of-map.ensures.new in
+    let it : IsMovedToCopy false v w c.args.o m n c.args.proto = subst (λ (x : View). IsMovedToCopy false x w c.args.o m n c.args.proto) same (c.link_alone.ensures.linked yes) in
+    subst (λ (s : ObjectsState g.row.P.Denot). DeathsAre NoMap s.heap.view.trail w.trail) c.self.view_is (no-deaths v w c.args.o it.changed)

@@ -1,5 +1,7 @@
 use Rattle.std.proofs.Common.{◌≡◌, ◌∙◌, ℕ, false, refl, Some, ap, sym, subst}
-use Rattle.hc_heap.specs.Readings.{gate_in, root_in}
+use Rattle.hc_facts.specs.Honest.{IsHonest}
+use Rattle.hc_heap.specs.Readings.{gate_in, root_in, store_in}
+use Rattle.hc_slots.specs.Slots.{AreHandedOut}
 use Rattle.hc_heap.specs.Frames.{goes-on}
 use Rattle.hc_heap.specs.States.{View, HeapState}
 use Rattle.hc_table.specs.Changes.{Linked}
@@ -7,7 +9,7 @@ use Rattle.hc_modes.specs.Came.{Steps}
 use Rattle.hc_modes.specs.State.{ObjectsState}
 use Rattle.hc_modes.specs.Details.{HasRewalked, IsRewalked}
 use Rattle.hc_slots.specs.Cases.{some-is}
-use Rattle.hc_modes.proofs.Facts.{relinked-facts}
+use Rattle.hc_modes.proofs.Facts.{resettled-facts}
 use Rattle.hc_modes.proofs.Linked.{call-linkable, call-may, call-room, call-world, call-sound, call-needs, call-protos}
 use Rattle.hc_modes.proofs.Shown.{fast-has}
 use Rattle.hc_modes.specs.Rest.{Relinks}
@@ -40,6 +42,16 @@ link_object-requires-clause-handed g c =
     let gate : gate_in c.map_of-map.new.h.view.trail c.map_of-map.result ≡ Some c.unwrap-gate.result = sym c.gate.ensures.value ∙ c.unwrap-gate.ensures in
     (call-linkable _ _ c.args.o c.args.proto c.self.view_is c.self.invariant c.requires.object c.requires.fast c.requires.shared c.map_of-map.new.h.view c.gate.new.self.view c.map_of-map.result c.unwrap-gate.result read again c.map_of-map.ensures.map gate).handed
 
+pub link_object-requires-clause-honest : goal.link_object-requires-clause-honest
+link_object-requires-clause-honest g c =
+    let same : c.gate.new.self.view ≡ c.self.inside.heap.view = ap (λ (s : HeapState g.row.P.Denot). s.view) c.gate.ensures.new ∙ ap (λ (s : HeapState g.row.P.Denot). s.view) c.map_of-map.ensures.new in
+    subst (λ (w : View). IsHonest w.trail) (sym same) (subst (λ (s : ObjectsState g.row.P.Denot). IsHonest s.heap.view.trail) (sym c.self.view_is) c.requires.honest)
+
+pub link_object-requires-clause-out : goal.link_object-requires-clause-out
+link_object-requires-clause-out g c =
+    let same : c.gate.new.self.view ≡ c.self.inside.heap.view = ap (λ (s : HeapState g.row.P.Denot). s.view) c.gate.ensures.new ∙ ap (λ (s : HeapState g.row.P.Denot). s.view) c.map_of-map.ensures.new in
+    subst (λ (w : View). AreHandedOut w.used.slots (store_in w.trail c.args.o)) (sym same) (c.self.invariant.stores c.args.o)
+
 pub link_object-requires-clause-proto : goal.link_object-requires-clause-proto
 link_object-requires-clause-proto g c =
     let read : c.map_of-map.new.h.view ≡ c.self.inside.heap.view = ap (λ (s : HeapState g.row.P.Denot). s.view) c.map_of-map.ensures.new in
@@ -52,7 +64,7 @@ invariant_of-self g c =
     let read : c.map_of-map.new.h.view ≡ c.self.inside.heap.view = ap (λ (s : HeapState g.row.P.Denot). s.view) c.map_of-map.ensures.new in
     let again : c.gate.new.self.view ≡ c.map_of-map.new.h.view = ap (λ (s : HeapState g.row.P.Denot). s.view) c.gate.ensures.new in
     let gate : gate_in c.map_of-map.new.h.view.trail c.map_of-map.result ≡ Some c.unwrap-gate.result = sym c.gate.ensures.value ∙ c.unwrap-gate.ensures in
-    call-sound _ _ c.args.o c.args.proto c.self.view_is c.self.invariant c.requires.object c.requires.fast c.requires.shared c.map_of-map.new.h.view c.gate.new.self.view c.map_of-map.result c.unwrap-gate.result read again c.map_of-map.ensures.map gate c.maps_are_kept.ensures.law c.details_rise.ensures.law c.gates_are_open.ensures.law c.changes_keep.ensures.law c.link_object.new.h.view c.link_object.new.of_null c.requires.there c.requires.no_cycle c.link_object.result c.link_object.ensures.relinked
+    call-sound _ _ c.args.o c.args.proto c.self.view_is c.self.invariant c.requires.object c.requires.fast c.requires.shared c.map_of-map.new.h.view c.gate.new.self.view c.map_of-map.result c.unwrap-gate.result read again c.map_of-map.ensures.map gate c.maps_are_kept.ensures.law c.details_rise.ensures.law c.changes_keep.ensures.law c.link_object.new.h.view c.link_object.new.of_null c.requires.there c.requires.no_cycle c.link_object.result c.link_object.ensures.relinked
     (λ no. ap (λ (s : HeapState g.row.P.Denot). s.view) (c.link_object.ensures.still no)) c.link_object.ensures.null
 
 pub returns-clause-linked : goal.returns-clause-linked
@@ -64,7 +76,7 @@ returns-clause-linked g c = λ yes.
     let after : ObjectsState g.row.P.Denot = record { heap = c.link_object.new.h; kept = c.self.inside.kept.items; of_null = c.link_object.new.of_null } in
     let on = g.met.P.Pace.goes_on in
     subst (λ (s : ObjectsState g.row.P.Denot). Steps g.P.Pace.went s (Linked c.args.o c.args.proto) after) c.self.view_is (record {
-      world = call-world _ _ c.args.o c.args.proto c.self.view_is c.self.invariant c.requires.object c.requires.fast c.requires.shared c.map_of-map.new.h.view c.gate.new.self.view c.map_of-map.result c.unwrap-gate.result read again c.map_of-map.ensures.map gate c.maps_are_kept.ensures.law c.details_rise.ensures.law c.gates_are_open.ensures.law c.changes_keep.ensures.law c.link_object.new.h.view c.link_object.new.of_null moved;
+      world = call-world _ _ c.args.o c.args.proto c.self.view_is c.self.invariant c.requires.object c.requires.fast c.requires.shared c.map_of-map.new.h.view c.gate.new.self.view c.map_of-map.result c.unwrap-gate.result read again c.map_of-map.ensures.map gate c.maps_are_kept.ensures.law c.details_rise.ensures.law c.changes_keep.ensures.law c.link_object.new.h.view c.link_object.new.of_null moved;
       shape = moved.changed.shape ∙ ap (λ (w : View). w.shape) (again ∙ read);
       goes = goes-on c.self.inside.heap.desk c.map_of-map.new.h.desk c.link_object.new.h.desk c.map_of-map.ensures.goes
           (goes-on c.map_of-map.new.h.desk c.gate.new.self.desk c.link_object.new.h.desk c.gate.ensures.goes c.link_object.ensures.goes);
@@ -74,9 +86,9 @@ returns-clause-linked g c = λ yes.
           let w = c.link_object.new.h.view in
           let m = c.map_of-map.result in
           let n = c.unwrap-gate.result.entries in
-          relinked-facts c.maps_are_kept.ensures.law c.details_rise.ensures.law c.forms_are_kept.ensures.law c.stable_is_kept.ensures.law c.honest_after.ensures.law c.kept_is_carried.ensures.law c.moved_is_carried.ensures.law
-          v w c.self.inside.kept.items c.self.inside.of_null c.link_object.new.of_null c.self.invariant c.args.o m n c.unwrap-gate.result c.map_of-map.ensures.map (ap (λ (x : View). gate_in x.trail m) (sym read) ∙ gate) refl c.args.proto
-          (subst (λ (x : View). IsRelinked x w c.self.inside.of_null c.link_object.new.of_null c.args.o m n c.args.proto) (again ∙ read) moved);
+          let it : IsRelinked v w c.self.inside.of_null c.link_object.new.of_null c.args.o m n c.args.proto = subst (λ (x : View). IsRelinked x w c.self.inside.of_null c.link_object.new.of_null c.args.o m n c.args.proto) (again ∙ read) moved in
+          resettled-facts c.maps_are_kept.ensures.law c.details_rise.ensures.law c.forms_are_kept.ensures.law c.stable_is_kept.ensures.law c.honest_after.ensures.law c.kept_is_carried.ensures.law c.moved_is_carried.ensures.law
+          v w c.self.inside.kept.items c.self.inside.of_null c.self.invariant c.args.o m n c.unwrap-gate.result c.map_of-map.ensures.map (ap (λ (x : View). gate_in x.trail m) (sym read) ∙ gate) refl it.map false c.args.proto it.changed it.unstable it.resettled;
     })
 
 pub returns-clause-room : goal.returns-clause-room
@@ -91,7 +103,7 @@ returns-clause-needs g c =
     let read : c.map_of-map.new.h.view ≡ c.self.inside.heap.view = ap (λ (s : HeapState g.row.P.Denot). s.view) c.map_of-map.ensures.new in
     let again : c.gate.new.self.view ≡ c.map_of-map.new.h.view = ap (λ (s : HeapState g.row.P.Denot). s.view) c.gate.ensures.new in
     let gate : gate_in c.map_of-map.new.h.view.trail c.map_of-map.result ≡ Some c.unwrap-gate.result = sym c.gate.ensures.value ∙ c.unwrap-gate.ensures in
-    call-needs _ _ c.args.o c.args.proto c.self.view_is c.self.invariant c.requires.object c.requires.fast c.requires.shared c.map_of-map.new.h.view c.gate.new.self.view c.map_of-map.result c.unwrap-gate.result read again c.map_of-map.ensures.map gate c.maps_are_kept.ensures.law c.details_rise.ensures.law c.gates_are_open.ensures.law c.changes_keep.ensures.law c.link_object.new.h.view c.link_object.new.of_null c.link_object.result c.link_object.ensures.relinked
+    call-needs _ _ c.args.o c.args.proto c.self.view_is c.self.invariant c.requires.object c.requires.fast c.requires.shared c.map_of-map.new.h.view c.gate.new.self.view c.map_of-map.result c.unwrap-gate.result read again c.map_of-map.ensures.map gate c.maps_are_kept.ensures.law c.details_rise.ensures.law c.changes_keep.ensures.law c.link_object.new.h.view c.link_object.new.of_null c.link_object.result c.link_object.ensures.relinked
     (λ no. ap (λ (s : HeapState g.row.P.Denot). s.view) (c.link_object.ensures.still no))
 
 pub returns-clause-protos : goal.returns-clause-protos
@@ -99,7 +111,7 @@ returns-clause-protos g c =
     let read : c.map_of-map.new.h.view ≡ c.self.inside.heap.view = ap (λ (s : HeapState g.row.P.Denot). s.view) c.map_of-map.ensures.new in
     let again : c.gate.new.self.view ≡ c.map_of-map.new.h.view = ap (λ (s : HeapState g.row.P.Denot). s.view) c.gate.ensures.new in
     let gate : gate_in c.map_of-map.new.h.view.trail c.map_of-map.result ≡ Some c.unwrap-gate.result = sym c.gate.ensures.value ∙ c.unwrap-gate.ensures in
-    call-protos _ _ c.args.o c.args.proto c.self.view_is c.self.invariant c.requires.object c.requires.fast c.requires.shared c.map_of-map.new.h.view c.gate.new.self.view c.map_of-map.result c.unwrap-gate.result read again c.map_of-map.ensures.map gate c.maps_are_kept.ensures.law c.details_rise.ensures.law c.gates_are_open.ensures.law c.changes_keep.ensures.law c.link_object.new.h.view c.link_object.new.of_null c.link_object.result c.link_object.ensures.relinked
+    call-protos _ _ c.args.o c.args.proto c.self.view_is c.self.invariant c.requires.object c.requires.fast c.requires.shared c.map_of-map.new.h.view c.gate.new.self.view c.map_of-map.result c.unwrap-gate.result read again c.map_of-map.ensures.map gate c.maps_are_kept.ensures.law c.details_rise.ensures.law c.changes_keep.ensures.law c.link_object.new.h.view c.link_object.new.of_null c.link_object.result c.link_object.ensures.relinked
     (λ no. ap (λ (s : HeapState g.row.P.Denot). s.view) (c.link_object.ensures.still no))
 
 pub returns-clause-relinks : goal.returns-clause-relinks

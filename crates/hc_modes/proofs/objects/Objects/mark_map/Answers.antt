@@ -5,7 +5,6 @@ use Rattle.hc_heap.specs.Frames.{goes-on}
 use Rattle.hc_heap.specs.States.{HeapState, View, IsHeap}
 use Rattle.hc_tree.specs.Growth.{marked}
 use Rattle.hc_tree.specs.Tree.{IsTree}
-use Rattle.hc_modes.proofs.Narrowing.{marked-tree}
 use Rattle.hc_modes.specs.Admitting.{FactsStay}
 use Rattle.hc_modes.specs.Came.{IsMarked}
 use Rattle.hc_modes.specs.Meaning.{kept_of, world}
@@ -26,7 +25,7 @@ mark_unstable-requires-clause-handed g c =
     let there : c.args.o < length kept = within _ _ c.args.o c.self.view_is c.requires.object in
     let fast : kept_of kept c.args.o ≡ None = subst (λ (s : ObjectsState g.row.P.Denot). kept_of s.kept c.args.o ≡ None) (sym c.self.view_is) c.requires.fast in
     subst (λ (w : View). c.map_of-map.result < w.used.maps) (sym read)
-    (map-used c.maps_are_kept.ensures.law c.details_rise.ensures.law c.narrow_trees_stay.ensures.law c.unused_says_nothing.ensures.law v kept c.self.inside.of_null c.self.invariant c.args.o there fast c.map_of-map.result c.map_of-map.ensures.map)
+    (map-used c.maps_are_kept.ensures.law c.details_rise.ensures.law c.trees_stay.ensures.law c.unused_says_nothing.ensures.law v kept c.self.inside.of_null c.self.invariant c.args.o there fast c.map_of-map.result c.map_of-map.ensures.map)
 
 pub invariant_of-self : goal.invariant_of-self
 invariant_of-self g c =
@@ -39,7 +38,7 @@ invariant_of-self g c =
     let fast : kept_of kept c.args.o ≡ None = subst (λ (s : ObjectsState g.row.P.Denot). kept_of s.kept c.args.o ≡ None) (sym c.self.view_is) c.requires.fast in
     subst (λ (w : View). IsObjects w kept c.self.inside.of_null) (sym is)
     (mark-sound c.maps_are_kept.ensures.law c.details_rise.ensures.law c.unused_says_nothing.ensures.law v kept c.self.inside.of_null c.self.invariant c.args.o there fast m
-    (marked-tree v.trail m (subst (λ (w : View). IsTree w.trail) is c.mark_unstable.ensures.tree) c.self.invariant.tree) (subst IsHeap is c.mark_unstable.ensures.heap))
+    (subst (λ (w : View). IsTree w.trail) is c.mark_unstable.ensures.tree) (subst IsHeap is c.mark_unstable.ensures.heap))
 
 pub returns : goal.returns
 returns g c =
@@ -56,13 +55,13 @@ returns g c =
         steps = record {
           world = ap (λ (w : View). world w.trail kept) is
               ∙ mark-world c.maps_are_kept.ensures.law c.details_rise.ensures.law c.unused_says_nothing.ensures.law v kept c.self.inside.of_null c.self.invariant c.args.o there fast m
-              (marked-tree v.trail m (subst (λ (w : View). IsTree w.trail) is c.mark_unstable.ensures.tree) c.self.invariant.tree) (subst IsHeap is c.mark_unstable.ensures.heap);
+              (subst (λ (w : View). IsTree w.trail) is c.mark_unstable.ensures.tree) (subst IsHeap is c.mark_unstable.ensures.heap);
           shape = ap (λ (w : View). w.shape) is;
           goes = goes-on c.self.inside.heap.desk c.map_of-map.new.h.desk c.mark_unstable.new.h.desk c.map_of-map.ensures.goes c.mark_unstable.ensures.goes;
           went = g.met.P.Pace.goes_on _ _ _ _ _ _ c.map_of-map.ensures.went c.mark_unstable.ensures.went;
           keeps = subst (λ (w : View). FactsStay v.shape v.trail w.trail) (sym is)
               (mark-facts c.maps_are_kept.ensures.law c.details_rise.ensures.law c.unused_says_nothing.ensures.law v kept c.self.inside.of_null c.self.invariant c.args.o there fast m
-              (marked-tree v.trail m (subst (λ (w : View). IsTree w.trail) is c.mark_unstable.ensures.tree) c.self.invariant.tree) (subst IsHeap is c.mark_unstable.ensures.heap)
+              (subst (λ (w : View). IsTree w.trail) is c.mark_unstable.ensures.tree) (subst IsHeap is c.mark_unstable.ensures.heap)
               c.forms_are_kept.ensures.law c.honest_after.ensures.law c.kept_is_carried.ensures.law);
         };
         map = m;

@@ -4,7 +4,7 @@ use Rattle.hc_modes.proofs.Gets.{details-none}
 use Rattle.hc_modes.proofs.Marking.{how-left, words-same}
 use Rattle.std.specs.Prelude.{IsSome, option_map}
 use Rattle.hc_heap.specs.States.{View, IsHeap}
-use Rattle.hc_modes.specs.Narrow.{IsNarrowTree}
+use Rattle.hc_tree.specs.Tree.{IsTree}
 use Rattle.hc_table.specs.Changes.{Moved}
 use Rattle.hc_modes.specs.Becoming.{HasBecome, with_proto}
 use Rattle.hc_modes.specs.Admitting.{FactsStay}
@@ -26,7 +26,7 @@ invariant_of-self g c =
     let there : p < length kept = within _ _ p c.self.view_is c.requires.object in
     let slow = some-of (kept_of kept p) (subst (λ (s : ObjectsState g.row.P.Denot). IsSome (kept_of s.kept p)) (sym c.self.view_is) c.requires.slow) in
     let is = c.set_is_proto.ensures.view in
-    let tree : IsNarrowTree (with_proto v.trail p) = subst (λ (w : View). IsNarrowTree w.trail) is c.set_is_proto.ensures.tree in
+    let tree : IsTree (with_proto v.trail p) = subst (λ (w : View). IsTree w.trail) is c.set_is_proto.ensures.tree in
     let heap : IsHeap (record v { trail = with_proto v.trail p }) = subst IsHeap is c.set_is_proto.ensures.heap in
     subst (λ (w : View). IsObjects w kept null) (sym is)
     (slow-proto-sound c.maps_are_kept.ensures.law c.details_rise.ensures.law v kept null c.self.invariant p there slow.0 slow.1 tree heap)
@@ -40,7 +40,7 @@ returns-clause-moved g c =
     let there : p < length kept = within _ _ p c.self.view_is c.requires.object in
     let slow = some-of (kept_of kept p) (subst (λ (s : ObjectsState g.row.P.Denot). IsSome (kept_of s.kept p)) (sym c.self.view_is) c.requires.slow) in
     let is = c.set_is_proto.ensures.view in
-    let tree : IsNarrowTree (with_proto v.trail p) = subst (λ (w : View). IsNarrowTree w.trail) is c.set_is_proto.ensures.tree in
+    let tree : IsTree (with_proto v.trail p) = subst (λ (w : View). IsTree w.trail) is c.set_is_proto.ensures.tree in
     let heap : IsHeap (record v { trail = with_proto v.trail p }) = subst IsHeap is c.set_is_proto.ensures.heap in
     let after : ObjectsState g.row.P.Denot = record { heap = c.set_is_proto.new.h; kept = kept; of_null = null } in
     subst (λ (s : ObjectsState g.row.P.Denot). Steps g.P.Pace.went s Moved after) c.self.view_is (record {

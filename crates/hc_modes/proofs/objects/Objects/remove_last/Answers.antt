@@ -6,7 +6,7 @@ use Rattle.hc_heap.specs.Lawful.{HoldsEntries}
 use Rattle.hc_heap.specs.Frames.{goes-on}
 use Rattle.hc_heap.specs.States.{View, HeapState, IsHeap}
 use Rattle.hc_tree.specs.Growth.{marked}
-use Rattle.hc_modes.specs.Narrow.{IsNarrowTree}
+use Rattle.hc_tree.specs.Tree.{IsTree}
 use Rattle.hc_table.specs.Changes.{Removed}
 use Rattle.hc_table.specs.World.{props_at}
 use Rattle.hc_modes.specs.Came.{Steps}
@@ -42,7 +42,7 @@ unwrap-requires g c =
     let o = c.args.o in
     let there : o < length kept = within _ _ o c.self.view_is c.requires.object in
     let fast : kept_of kept o ≡ None = subst (λ (s : ObjectsState g.row.P.Denot). kept_of s.kept c.args.o ≡ None) (sym c.self.view_is) c.requires.fast in
-    let laws : Laws = record { maps = c.maps_are_kept.ensures.law; details = c.details_rise.ensures.law; trees = c.narrow_trees_stay.ensures.law; unused = c.unused_says_nothing.ensures.law; gates = c.gates_are_open.ensures.law; changes = c.changes_keep.ensures.law } in
+    let laws : Laws = record { maps = c.maps_are_kept.ensures.law; details = c.details_rise.ensures.law; trees = c.trees_stay.ensures.law; unused = c.unused_says_nothing.ensures.law; gates = c.gates_are_open.ensures.law; changes = c.changes_keep.ensures.law } in
     let shared : (root_in v.trail o).is_proto ≡ false = subst (λ (s : ObjectsState g.row.P.Denot). (root_in s.heap.view.trail c.args.o).is_proto ≡ false) (sym c.self.view_is) c.requires.shared in
     let some : 0 < length (props_at (world v.trail kept) o) = subst (λ (s : ObjectsState g.row.P.Denot). 0 < length (props_at (world s.heap.view.trail s.kept) c.args.o)) (sym c.self.view_is) c.requires.some in
     let read : c.map_of-map.new.h.view ≡ v = ap (λ (s : HeapState g.row.P.Denot). s.view) c.map_of-map.ensures.new in
@@ -60,7 +60,7 @@ unwrap-parent-requires g c =
     let o = c.args.o in
     let there : o < length kept = within _ _ o c.self.view_is c.requires.object in
     let fast : kept_of kept o ≡ None = subst (λ (s : ObjectsState g.row.P.Denot). kept_of s.kept c.args.o ≡ None) (sym c.self.view_is) c.requires.fast in
-    let laws : Laws = record { maps = c.maps_are_kept.ensures.law; details = c.details_rise.ensures.law; trees = c.narrow_trees_stay.ensures.law; unused = c.unused_says_nothing.ensures.law; gates = c.gates_are_open.ensures.law; changes = c.changes_keep.ensures.law } in
+    let laws : Laws = record { maps = c.maps_are_kept.ensures.law; details = c.details_rise.ensures.law; trees = c.trees_stay.ensures.law; unused = c.unused_says_nothing.ensures.law; gates = c.gates_are_open.ensures.law; changes = c.changes_keep.ensures.law } in
     let shared : (root_in v.trail o).is_proto ≡ false = subst (λ (s : ObjectsState g.row.P.Denot). (root_in s.heap.view.trail c.args.o).is_proto ≡ false) (sym c.self.view_is) c.requires.shared in
     let some : 0 < length (props_at (world v.trail kept) o) = subst (λ (s : ObjectsState g.row.P.Denot). 0 < length (props_at (world s.heap.view.trail s.kept) c.args.o)) (sym c.self.view_is) c.requires.some in
     let read : c.map_of-map.new.h.view ≡ v = ap (λ (s : HeapState g.row.P.Denot). s.view) c.map_of-map.ensures.new in
@@ -98,7 +98,7 @@ move_to_parent-requires-clause-there g c =
     let o = c.args.o in
     let there : o < length kept = within _ _ o c.self.view_is c.requires.object in
     let fast : kept_of kept o ≡ None = subst (λ (s : ObjectsState g.row.P.Denot). kept_of s.kept c.args.o ≡ None) (sym c.self.view_is) c.requires.fast in
-    let laws : Laws = record { maps = c.maps_are_kept.ensures.law; details = c.details_rise.ensures.law; trees = c.narrow_trees_stay.ensures.law; unused = c.unused_says_nothing.ensures.law; gates = c.gates_are_open.ensures.law; changes = c.changes_keep.ensures.law } in
+    let laws : Laws = record { maps = c.maps_are_kept.ensures.law; details = c.details_rise.ensures.law; trees = c.trees_stay.ensures.law; unused = c.unused_says_nothing.ensures.law; gates = c.gates_are_open.ensures.law; changes = c.changes_keep.ensures.law } in
     let shared : (root_in v.trail o).is_proto ≡ false = subst (λ (s : ObjectsState g.row.P.Denot). (root_in s.heap.view.trail c.args.o).is_proto ≡ false) (sym c.self.view_is) c.requires.shared in
     let some : 0 < length (props_at (world v.trail kept) o) = subst (λ (s : ObjectsState g.row.P.Denot). 0 < length (props_at (world s.heap.view.trail s.kept) c.args.o)) (sym c.self.view_is) c.requires.some in
     let read : c.map_of-map.new.h.view ≡ v = ap (λ (s : HeapState g.row.P.Denot). s.view) c.map_of-map.ensures.new in
@@ -118,7 +118,7 @@ move_to_parent-requires-clause-parent_there g c =
     let o = c.args.o in
     let there : o < length kept = within _ _ o c.self.view_is c.requires.object in
     let fast : kept_of kept o ≡ None = subst (λ (s : ObjectsState g.row.P.Denot). kept_of s.kept c.args.o ≡ None) (sym c.self.view_is) c.requires.fast in
-    let laws : Laws = record { maps = c.maps_are_kept.ensures.law; details = c.details_rise.ensures.law; trees = c.narrow_trees_stay.ensures.law; unused = c.unused_says_nothing.ensures.law; gates = c.gates_are_open.ensures.law; changes = c.changes_keep.ensures.law } in
+    let laws : Laws = record { maps = c.maps_are_kept.ensures.law; details = c.details_rise.ensures.law; trees = c.trees_stay.ensures.law; unused = c.unused_says_nothing.ensures.law; gates = c.gates_are_open.ensures.law; changes = c.changes_keep.ensures.law } in
     let shared : (root_in v.trail o).is_proto ≡ false = subst (λ (s : ObjectsState g.row.P.Denot). (root_in s.heap.view.trail c.args.o).is_proto ≡ false) (sym c.self.view_is) c.requires.shared in
     let some : 0 < length (props_at (world v.trail kept) o) = subst (λ (s : ObjectsState g.row.P.Denot). 0 < length (props_at (world s.heap.view.trail s.kept) c.args.o)) (sym c.self.view_is) c.requires.some in
     let read : c.map_of-map.new.h.view ≡ v = ap (λ (s : HeapState g.row.P.Denot). s.view) c.map_of-map.ensures.new in
@@ -138,7 +138,7 @@ move_to_parent-requires-clause-filled g c =
     let o = c.args.o in
     let there : o < length kept = within _ _ o c.self.view_is c.requires.object in
     let fast : kept_of kept o ≡ None = subst (λ (s : ObjectsState g.row.P.Denot). kept_of s.kept c.args.o ≡ None) (sym c.self.view_is) c.requires.fast in
-    let laws : Laws = record { maps = c.maps_are_kept.ensures.law; details = c.details_rise.ensures.law; trees = c.narrow_trees_stay.ensures.law; unused = c.unused_says_nothing.ensures.law; gates = c.gates_are_open.ensures.law; changes = c.changes_keep.ensures.law } in
+    let laws : Laws = record { maps = c.maps_are_kept.ensures.law; details = c.details_rise.ensures.law; trees = c.trees_stay.ensures.law; unused = c.unused_says_nothing.ensures.law; gates = c.gates_are_open.ensures.law; changes = c.changes_keep.ensures.law } in
     let shared : (root_in v.trail o).is_proto ≡ false = subst (λ (s : ObjectsState g.row.P.Denot). (root_in s.heap.view.trail c.args.o).is_proto ≡ false) (sym c.self.view_is) c.requires.shared in
     let some : 0 < length (props_at (world v.trail kept) o) = subst (λ (s : ObjectsState g.row.P.Denot). 0 < length (props_at (world s.heap.view.trail s.kept) c.args.o)) (sym c.self.view_is) c.requires.some in
     let read : c.map_of-map.new.h.view ≡ v = ap (λ (s : HeapState g.row.P.Denot). s.view) c.map_of-map.ensures.new in
@@ -158,7 +158,7 @@ invariant_of-self g c =
     let o = c.args.o in
     let there : o < length kept = within _ _ o c.self.view_is c.requires.object in
     let fast : kept_of kept o ≡ None = subst (λ (s : ObjectsState g.row.P.Denot). kept_of s.kept c.args.o ≡ None) (sym c.self.view_is) c.requires.fast in
-    let laws : Laws = record { maps = c.maps_are_kept.ensures.law; details = c.details_rise.ensures.law; trees = c.narrow_trees_stay.ensures.law; unused = c.unused_says_nothing.ensures.law; gates = c.gates_are_open.ensures.law; changes = c.changes_keep.ensures.law } in
+    let laws : Laws = record { maps = c.maps_are_kept.ensures.law; details = c.details_rise.ensures.law; trees = c.trees_stay.ensures.law; unused = c.unused_says_nothing.ensures.law; gates = c.gates_are_open.ensures.law; changes = c.changes_keep.ensures.law } in
     let shared : (root_in v.trail o).is_proto ≡ false = subst (λ (s : ObjectsState g.row.P.Denot). (root_in s.heap.view.trail c.args.o).is_proto ≡ false) (sym c.self.view_is) c.requires.shared in
     let some : 0 < length (props_at (world v.trail kept) o) = subst (λ (s : ObjectsState g.row.P.Denot). 0 < length (props_at (world s.heap.view.trail s.kept) c.args.o)) (sym c.self.view_is) c.requires.some in
     let read : c.map_of-map.new.h.view ≡ v = ap (λ (s : HeapState g.row.P.Denot). s.view) c.map_of-map.ensures.new in
@@ -170,7 +170,7 @@ invariant_of-self g c =
     let is_parent : parent_in v.trail m ≡ Some (Some q) = sym e ∙ c.unwrap.ensures ∙ ap (λ (x : Option ℕ). Some x) c.unwrap-parent.ensures in
     let new = c.move_to_parent.new.h.view in
     let is : new ≡ record v { trail = ObjectMap o (Some q) ∷ marked v.trail m } = c.move_to_parent.ensures.view ∙ ap (λ (w : View). let x : View = record w { trail = ObjectMap o (Some q) ∷ marked w.trail m } in x) again in
-    let marked_tree : IsNarrowTree (marked v.trail m) = subst (λ (w : View). IsNarrowTree (marked w.trail m)) again c.move_to_parent.ensures.marked_tree in
+    let marked_tree : IsTree (marked v.trail m) = subst (λ (w : View). IsTree (marked w.trail m)) again c.move_to_parent.ensures.marked_tree in
     let marked_heap : IsHeap (record v { trail = marked v.trail m }) = subst (λ (w : View). IsHeap (record w { trail = marked w.trail m })) again c.move_to_parent.ensures.marked_heap in
     let last : length (props_at (world v.trail kept) o) ≡ (length (props_at (world v.trail kept) o) - 1) + 1 = omega (arith, some) in
     shrunk-sound laws v kept null c.self.invariant o there fast shared some m q is_map is_parent (length (props_at (world v.trail kept) o) - 1) last new is marked_tree marked_heap c.move_to_parent.ensures.heap
@@ -183,7 +183,7 @@ returns-clause-steps g c =
     let o = c.args.o in
     let there : o < length kept = within _ _ o c.self.view_is c.requires.object in
     let fast : kept_of kept o ≡ None = subst (λ (s : ObjectsState g.row.P.Denot). kept_of s.kept c.args.o ≡ None) (sym c.self.view_is) c.requires.fast in
-    let laws : Laws = record { maps = c.maps_are_kept.ensures.law; details = c.details_rise.ensures.law; trees = c.narrow_trees_stay.ensures.law; unused = c.unused_says_nothing.ensures.law; gates = c.gates_are_open.ensures.law; changes = c.changes_keep.ensures.law } in
+    let laws : Laws = record { maps = c.maps_are_kept.ensures.law; details = c.details_rise.ensures.law; trees = c.trees_stay.ensures.law; unused = c.unused_says_nothing.ensures.law; gates = c.gates_are_open.ensures.law; changes = c.changes_keep.ensures.law } in
     let shared : (root_in v.trail o).is_proto ≡ false = subst (λ (s : ObjectsState g.row.P.Denot). (root_in s.heap.view.trail c.args.o).is_proto ≡ false) (sym c.self.view_is) c.requires.shared in
     let some : 0 < length (props_at (world v.trail kept) o) = subst (λ (s : ObjectsState g.row.P.Denot). 0 < length (props_at (world s.heap.view.trail s.kept) c.args.o)) (sym c.self.view_is) c.requires.some in
     let read : c.map_of-map.new.h.view ≡ v = ap (λ (s : HeapState g.row.P.Denot). s.view) c.map_of-map.ensures.new in
@@ -195,7 +195,7 @@ returns-clause-steps g c =
     let is_parent : parent_in v.trail m ≡ Some (Some q) = sym e ∙ c.unwrap.ensures ∙ ap (λ (x : Option ℕ). Some x) c.unwrap-parent.ensures in
     let new = c.move_to_parent.new.h.view in
     let is : new ≡ record v { trail = ObjectMap o (Some q) ∷ marked v.trail m } = c.move_to_parent.ensures.view ∙ ap (λ (w : View). let x : View = record w { trail = ObjectMap o (Some q) ∷ marked w.trail m } in x) again in
-    let marked_tree : IsNarrowTree (marked v.trail m) = subst (λ (w : View). IsNarrowTree (marked w.trail m)) again c.move_to_parent.ensures.marked_tree in
+    let marked_tree : IsTree (marked v.trail m) = subst (λ (w : View). IsTree (marked w.trail m)) again c.move_to_parent.ensures.marked_tree in
     let marked_heap : IsHeap (record v { trail = marked v.trail m }) = subst (λ (w : View). IsHeap (record w { trail = marked w.trail m })) again c.move_to_parent.ensures.marked_heap in
     let first = c.self.inside.heap in
     let then : ObjectsState g.row.P.Denot = record { heap = c.move_to_parent.new.h; kept = kept; of_null = null } in
@@ -217,7 +217,7 @@ returns-clause-marks g c =
     let o = c.args.o in
     let there : o < length kept = within _ _ o c.self.view_is c.requires.object in
     let fast : kept_of kept o ≡ None = subst (λ (s : ObjectsState g.row.P.Denot). kept_of s.kept c.args.o ≡ None) (sym c.self.view_is) c.requires.fast in
-    let laws : Laws = record { maps = c.maps_are_kept.ensures.law; details = c.details_rise.ensures.law; trees = c.narrow_trees_stay.ensures.law; unused = c.unused_says_nothing.ensures.law; gates = c.gates_are_open.ensures.law; changes = c.changes_keep.ensures.law } in
+    let laws : Laws = record { maps = c.maps_are_kept.ensures.law; details = c.details_rise.ensures.law; trees = c.trees_stay.ensures.law; unused = c.unused_says_nothing.ensures.law; gates = c.gates_are_open.ensures.law; changes = c.changes_keep.ensures.law } in
     let shared : (root_in v.trail o).is_proto ≡ false = subst (λ (s : ObjectsState g.row.P.Denot). (root_in s.heap.view.trail c.args.o).is_proto ≡ false) (sym c.self.view_is) c.requires.shared in
     let some : 0 < length (props_at (world v.trail kept) o) = subst (λ (s : ObjectsState g.row.P.Denot). 0 < length (props_at (world s.heap.view.trail s.kept) c.args.o)) (sym c.self.view_is) c.requires.some in
     let read : c.map_of-map.new.h.view ≡ v = ap (λ (s : HeapState g.row.P.Denot). s.view) c.map_of-map.ensures.new in

@@ -9,4 +9,4 @@ returns-clause-others g c =
     let first : map_in c.args.self.now.heap.view.trail c.args.a ≡ Some c.in-Some-Some.map = sym c.map_of.ensures.value ∙ c.in-Some-Some.is-0 in
     let read = ap (λ (s : ObjectsState g.row.P.Denot). map_in s.heap.view.trail c.args.b) c.map_of.ensures.still.is in
     let second : map_in c.args.self.now.heap.view.trail c.args.b ≡ Some c.in-Some-Some.other = sym read ∙ sym c.map_of-2.ensures.value ∙ c.in-Some-Some.is-1 in
-    compared c.gates_are_open.ensures.law c.args.self.now c.stands.ensures.sound c.args.a c.args.b c.in-Some-Some.map c.in-Some-Some.other c.requires.a c.requires.b first second
+    compared c.gates_are_open.ensures.law c.args.self.now c.stands.ensures.sound c.args.a c.args.b c.in-Some-Some.map c.in-Some-Some.other c.requires.a c.requires.b first second c.requires.live_a c.requires.live_b

@@ -3,6 +3,7 @@ use Rattle.hc_table.specs.Changes.{Linked}
 use Rattle.hc_tree.specs.declared.need.Need.{Need}
 use Rattle.hc_tree.specs.Needs.{HasSpace}
 use Rattle.hc_table.specs.World.{World, object}
+use Rattle.hc_facts.specs.Honest.{IsHonest}
 use Rattle.hc_modes.specs.Came.{AreMoves, IsStill, Move, moves_to_link, world_of}
 use Rattle.hc_modes.specs.Inheriting.{IsSpareFor, IsSpareOf, spared_named}
 use Rattle.hc_modes.specs.Laws.{before-still, moves-before, still-on}
@@ -18,6 +19,11 @@ link_with-requires-clause-fast g c =
     let still : IsStill c.args.self.now c.link_spare.new.self = still-on c.args.self.now c.spare_of.new.self c.link_spare.new.self c.spare_of.ensures.still c.link_spare.ensures.still in
     c.settle_for.ensures.named.others c.args.o (not-itself (world_of c.args.self.now) c.args.o c.args.proto c.requires.object c.requires.no_cycle)
     ∙ subst (λ (s : ObjectsState g.row.P.Denot). kept_of s.kept c.args.o ≡ None) (sym still.is) c.requires.fast
+
+pub link_with-requires-clause-honest : goal.link_with-requires-clause-honest
+link_with-requires-clause-honest g c =
+    let still : IsStill c.args.self.now c.link_spare.new.self = still-on c.args.self.now c.spare_of.new.self c.link_spare.new.self c.spare_of.ensures.still c.link_spare.ensures.still in
+    c.settle_for.ensures.named.steps.keeps.honest (subst (λ (s : ObjectsState g.row.P.Denot). IsHonest s.heap.view.trail) (sym still.is) c.requires.honest)
 
 pub link_with-requires-clause-spare : goal.link_with-requires-clause-spare
 link_with-requires-clause-spare g c =

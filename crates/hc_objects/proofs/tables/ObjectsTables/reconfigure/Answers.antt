@@ -3,7 +3,7 @@ use Rattle.std.proofs.lemmas.Result.{on_err_weaker}
 use Rattle.hc_layout.specs.declared.shape.Shape.{Shape}
 use Rattle.hc_table.specs.Changes.{Moved, Reconfigured}
 use Rattle.hc_objects.specs.Laws.{came-shape, came-world}
-use Rattle.hc_objects.proofs.Applying.{either}
+use Rattle.hc_objects.proofs.Applied.{either}
 use Rattle.hc_objects.proofs.tables.ObjectsTables.reconfigure.Goals as goal
 
 pub returns-clause-err : goal.returns-clause-err

@@ -1,0 +1,42 @@
+-- The sites that a command leaves which was answered.
+use Rattle.std.proofs.Common.{◌≡◌, ℕ, zero, suc, ◌+◌, ◌≤◌, List, [], ◌∷◌, ◌++◌, length, map, sym, subst}
+use Rattle.hc_plan.specs.declared.case.Site.{Site}
+use Rattle.hc_sites.specs.State.{new_site}
+use Rattle.hc_access.specs.Entries.{AreGood}
+use Rattle.hc_board.specs.Trail.{Access}
+use Rattle.hc_commands.specs.Numbers.{IsCommandBelow}
+use Rattle.hc_commands.specs.declared.command.Command.{Command}
+use Rattle.hc_modes.specs.State.{ObjectsState}
+use Rattle.hc_sites.specs.declared.state.SiteState.{SiteState}
+use Rattle.hc_session.specs.Plain.{Answer}
+use Rattle.hc_session.specs.Serving.{AreNamedSites}
+use Rattle.hc_session.specs.Standing.{Standing, plain_of}
+use Rattle.hc_session.specs.State.{Does}
+use Rattle.hc_session.proofs.Declares.{one_more, sites-named}
+
+module _ {P : Type 0} (went : P → List Access → List Access → P → Type 0) (old : Standing P) (command : Command) (answer : Answer) (new : Standing P) (does : Does went old command answer new) where
+  -- at most one more
+  pub no_two_more : length new.sites ≤ length old.sites + 1
+  no_two_more = subst (λ (xs : List SiteState). length xs ≤ length old.sites + 1) (sym does.sites) (one_more does.used.ready old.sites command)
+
+  -- their names are such as before
+  pub names_keep : (count : ℕ) → IsCommandBelow count command → AreNamedSites count (plain_of old).sites → AreNamedSites count (plain_of new).sites
+  names_keep count below named = subst (λ (xs : List SiteState). AreNamedSites count (map (λ (x : SiteState). x.site) xs)) (sym does.sites) (sites-named count does.used.ready old.sites command below named)
+
+-- Where there is no site
+
+pub named-where-none : (count : ℕ) (sites : List SiteState) → sites ≡ [] → AreNamedSites count (map (λ (x : SiteState). x.site) sites)
+named-where-none count sites none = subst (λ (xs : List SiteState). AreNamedSites count (map (λ (x : SiteState). x.site) xs)) (sym none) (λ n site is. let f : ⊥ = cc in absurd f)
+
+pub good-where-none : {P : Type 0} (objects : ObjectsState P) (sites : List SiteState) → AreGood objects [] → sites ≡ [] → AreGood objects sites
+good-where-none {P} objects sites good none = subst (λ (xs : List SiteState). AreGood objects xs) (sym none) good
+
+-- a site more, at which nothing happened yet
+good-more : {P : Type 0} (objects : ObjectsState P) (sites : List SiteState) (site : Site) → AreGood objects sites → AreGood objects (sites ++ new_site site ∷ [])
+good-more {P} objects [] site good zero state entry is cached = let f : ⊥ = cc in absurd f
+good-more {P} objects [] site good (suc n) state entry is cached = let f : ⊥ = cc in absurd f
+good-more {P} objects (x ∷ xs) site good zero state entry is cached = good zero state entry is cached
+good-more {P} objects (x ∷ xs) site good (suc n) state entry is cached = good-more objects xs site (λ k y z first second. good (suc k) y z first second) n state entry is cached
+
+pub good-declared : {P : Type 0} (objects : ObjectsState P) (sites now : List SiteState) (site : Site) → AreGood objects sites → now ≡ sites ++ new_site site ∷ [] → AreGood objects now
+good-declared {P} objects sites now site good is = subst (λ (xs : List SiteState). AreGood objects xs) (sym is) (good-more objects sites site good)

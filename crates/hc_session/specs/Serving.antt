@@ -1,0 +1,49 @@
+-- What serving a command does, to objects, sites and the log.
+use Rattle.std.specs.Prelude.{◌≡◌, ◌<◌, ℕ, Bool, true, false, if◌then◌else◌, List, [], ◌∷◌, ◌++◌, length, slice_get, Some}
+use Rattle.hc_board.specs.States.{counted}
+use Rattle.hc_board.specs.Trail.{Access}
+use Rattle.hc_value.specs.declared.reply.Reply.{Reply}
+use Rattle.hc_access.specs.Entries.{is_cached}
+use Rattle.hc_modes.specs.State.{ObjectsState}
+use Rattle.hc_plan.specs.declared.case.Site.{Site}
+use Rattle.hc_sites.specs.declared.state.SiteState.{SiteState}
+use Rattle.hc_table.specs.Changes.{after}
+use Rattle.hc_table.specs.Kept.{with_world}
+use Rattle.hc_commands.specs.declared.command.Command.{Command}
+use Rattle.hc_commands.specs.declared.command.Command.TheVariants.{Exec}
+use Rattle.hc_report.specs.declared.line.Line.{Line}
+use Rattle.hc_report.specs.declared.line.Line.TheVariants.{Cache, Slow}
+use Rattle.hc_session.specs.Plain.{act_in, is_access}
+use Rattle.hc_session.specs.Standing.{plain_with, tables_of}
+use Rattle.hc_session.specs.State.{IsCheap, IsTrueReply, Used, sites_by}
+use Rattle.hc_session.specs.Tables.{IsReplyOf, did_in}
+use Rattle.hc_session.specs.Using.{is_accepted}
+
+-- each site's name is one of so many
+abbrev pub AreNamedSites : ℕ → List Site → Type 0
+AreNamedSites count sites = (n : ℕ) (site : Site) → slice_get sites n ≡ Some site → site.name < count
+
+-- the line of an access
+abbrev pub way_line : Bool → ℕ → Line
+way_line true s = Cache s
+way_line false s = Slow s
+
+-- what a command puts into the log: an access that is accepted one line, which says whether the inline cache answered, and how many
+-- stores there were when that was chosen
+abbrev pub lines_of : {P : Type 0} → ObjectsState P → List SiteState → Command → List (ℕ × Line)
+lines_of objects sites (Exec s o value) =
+    if is_access (plain_with objects sites) (Exec s o value)
+    then (counted (length objects.heap.desk.trail), way_line (is_cached objects.heap.view.trail sites s o) s) ∷ []
+    else []
+lines_of objects sites command = []
+
+-- a command that is answered: its reply is the one that tables with sites give, true of how objects are kept; the objects that it uses
+-- are migrated, and then change so; the sites and the lines of the log are these; and the inline cache's answers are cheap
+pub record Serves {P : Type 0} (went : P → List Access → List Access → P → Type 0) (objects : ObjectsState P) (sites : List SiteState) (log : List (ℕ × Line)) (command : Command) (reply : Reply) (objects_now : ObjectsState P) (sites_now : List SiteState) (log_now : List (ℕ × Line)) : Type 0 where
+  pub reply_is : IsReplyOf command (act_in (plain_with objects sites) command) reply
+  pub tables_are : tables_of objects_now ≡ with_world (tables_of objects) (after (did_in (act_in (plain_with objects sites) command)) (tables_of objects).world)
+  pub kept : IsTrueReply objects_now command reply
+  pub used : Used went objects (is_accepted (plain_with objects sites) command) command (did_in (act_in (plain_with objects sites) command)) objects_now
+  pub sites_are : sites_now ≡ sites_by used.ready sites command
+  pub lines_are : log_now ≡ log ++ lines_of used.ready sites command
+  pub cheap : IsCheap objects used.ready sites command objects_now
