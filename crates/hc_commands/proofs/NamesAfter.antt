@@ -5,9 +5,10 @@ use Rattle.std.proofs.lemmas.Option.{slice_get_within}
 use Rattle.hc_names.specs.Names.{has_text, number_of, with_text}
 use Rattle.hc_commands.specs.Values.{WrittenValue, written_undefined, written_null, written_boolean, written_integer, written_text, written_object, value_of, names_behind, maybe_value_of, names_behind_maybe}
 use Rattle.hc_commands.specs.Definition.{Description, IsDescription, mixes_kinds, descriptor_of}
-use Rattle.hc_commands.specs.Verbs.{is_built, IsBuilt}
+use Rattle.hc_commands.specs.Verbs.{IsBuilt}
 use Rattle.hc_commands.specs.Numbers.{IsValueBelow, IsGivenBelow, IsDescriptorBelow, IsCommandBelow}
-use Rattle.hc_commands.specs.Grammar.{Form, new_object, link_prototype, ask_property, set_value, define_property, ask_object, compare_objects, declare_site, execute_site, compile_site, step_job, step_during, finish_job, verb_of, IsForm, command_of, names_after}
+use Rattle.hc_commands.specs.Grammar.{Form, new_object, link_prototype, ask_property, set_value, define_property, ask_object, compare_objects, declare_site, execute_site, compile_site, step_job, step_during, finish_job, is_built_form, IsForm, command_of, names_after}
+use Rattle.hc_commands.specs.declared.command.Reads.TheVariants.{Count, All}
 use Rattle.hc_commands.specs.declared.verb.PropertyVerb.TheVariants.{Get, Has, Own, Delete}
 use Rattle.hc_commands.specs.declared.verb.ObjectVerb.TheVariants.{Keys, Proto, Extensible, Lock, Seal, Freeze, Shape}
 
@@ -96,7 +97,7 @@ command_below numbered names (step_during c j reads) is = tt
 command_below numbered names (finish_job j) is = tt
 
 -- a built form asks for a built command
-pub command_built : (names : List (List ℕ)) (form : Form) → is_built (verb_of form) ≡ true → IsBuilt (command_of names form)
+pub command_built : (names : List (List ℕ)) (form : Form) → is_built_form form ≡ true → IsBuilt (command_of names form)
 command_built names (ask_property Get o name) built = built
 command_built names (ask_property Has o name) built = built
 command_built names (ask_property Own o name) built = built
@@ -116,6 +117,7 @@ command_built names (new_object proto) built = built
 command_built names (link_prototype o proto) built = built
 command_built names (compare_objects o p) built = built
 command_built names (compile_site s) built = built
-command_built names (step_job j reads) built = built
+command_built names (step_job j All) built = built
+command_built names (step_job j (Count n)) built = built
 command_built names (step_during c j reads) built = built
 command_built names (finish_job j) built = built

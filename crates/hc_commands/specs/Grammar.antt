@@ -1,5 +1,5 @@
 -- The forms of a command line, each with its words.
-use Rattle.std.specs.Prelude.{◌≡◌, ℕ, ◌<◌, ◌^◌, false, List, [], ◌∷◌, Option, Some, None}
+use Rattle.std.specs.Prelude.{◌≡◌, ℕ, ◌<◌, ◌^◌, Bool, true, false, List, [], ◌∷◌, Option, Some, None}
 use Rattle.std.specs.Fmt.{decimal}
 use Rattle.hc_names.specs.Names.{number_of, with_text}
 use Rattle.hc_commands.specs.Values.{IsName, WrittenValue, IsWrittenValue, IsGivenValue, object_word, value_word, value_of, names_behind, maybe_value_of, names_behind_maybe}
@@ -8,6 +8,7 @@ use Rattle.hc_commands.specs.Definition.{Description, IsDescription, mixes_kinds
 use Rattle.hc_commands.specs.Verbs.{verb_word}
 use Rattle.hc_plan.specs.declared.case.Op.{Op}
 use Rattle.hc_commands.specs.declared.command.Reads.{Reads}
+use Rattle.hc_commands.specs.declared.command.Reads.TheVariants.{Count}
 use Rattle.hc_commands.specs.declared.command.Command.{Command}
 use Rattle.hc_commands.specs.declared.command.Command.TheVariants.{New as NewCommand, Get as GetCommand, Set as SetCommand, Define as DefineCommand, Has as HasCommand, Own as OwnCommand, Delete as DeleteCommand, Keys as KeysCommand, Proto as ProtoCommand, SetProto as SetProtoCommand, Extensible as ExtensibleCommand, Lock as LockCommand, Seal as SealCommand, Freeze as FreezeCommand, Shape as ShapeCommand, Same as SameCommand, Declare as DeclareCommand, Exec as ExecCommand, Compile as CompileCommand, Step as StepCommand, During as DuringCommand, Finish as FinishCommand}
 use Rattle.hc_commands.specs.declared.verb.PropertyVerb.{PropertyVerb}
@@ -47,6 +48,12 @@ verb_of (compile_site s) = Compile
 verb_of (step_job j reads) = Step
 verb_of (step_during c j reads) = During
 verb_of (finish_job j) = Finish
+
+-- the command of this form is built
+abbrev pub is_built_form : Form → Bool
+is_built_form (step_job j (Count n)) = false
+is_built_form (step_during c j reads) = false
+is_built_form form = true
 
 -- numbers, names and values in their ranges; a definition is of one kind at most
 abbrev pub IsForm : Form → Type 0

@@ -1,6 +1,6 @@
 ghost use Rattle.std.specs.Prelude.{◌≡◌, IfSome, IfNone};
 ghost use Rattle.hc_commands.specs.Words.{words_of};
-ghost use Rattle.hc_commands.specs.Grammar.{verb_of, IsForm, IsSpelled, HaveNoForm};
+ghost use Rattle.hc_commands.specs.Grammar.{is_built_form, IsForm, IsSpelled, HaveNoForm};
 ghost use Rattle.hc_commands.specs.Request.{form_of, AreAsked, HaveNoParts};
 
 mod objects;
@@ -70,24 +70,13 @@ fn request_behind(verb: Verb, rest: &[u8]) -> Option<Request<'_>>
 }
 
 impl Request<'_> {
-    /// The verb with which its line begins.
-    pub fn verb(&self) -> Verb
-        ensures { result ≡ verb_of (form_of self.now) }
+    /// Whether the command that it asks for is built.
+    pub fn is_built(&self) -> bool
+        ensures { result ≡ is_built_form (form_of self.now) }
     {
-        match self {
-            Request::NewObject(_) => Verb::New,
-            Request::LinkPrototype(_, _) => Verb::SetProto,
-            Request::AskProperty(verb, _, _) => Verb::OfProperty(*verb),
-            Request::SetValue(_, _, _) => Verb::Set,
-            Request::DefineProperty(_, _, _) => Verb::Define,
-            Request::AskObject(verb, _) => Verb::OfObject(*verb),
-            Request::CompareObjects(_, _) => Verb::Same,
-            Request::DeclareSite(_, _) => Verb::Site,
-            Request::ExecuteSite(_, _, _) => Verb::Exec,
-            Request::CompileSite(_) => Verb::Compile,
-            Request::StepJob(_, _) => Verb::Step,
-            Request::StepDuring(_, _, _) => Verb::During,
-            Request::FinishJob(_) => Verb::Finish,
-        }
+        !matches!(
+            self,
+            Request::StepJob(_, Reads::Count(_)) | Request::StepDuring(_, _, _)
+        )
     }
 }

@@ -1,8 +1,8 @@
 //! What the definitions of commands say of every form and of every list of names, for proofs above.
 ghost use Rattle.std.specs.Prelude.{◌≡◌, ◌≤◌, ℕ, List, length, true};
 ghost use Rattle.hc_commands.specs.Values.{WrittenValue, IsWrittenValue, value_word};
-ghost use Rattle.hc_commands.specs.Verbs.{verb_word, is_built, IsBuilt};
-ghost use Rattle.hc_commands.specs.Grammar.{Form, verb_of, IsForm, IsSpelled, command_of, names_after};
+ghost use Rattle.hc_commands.specs.Verbs.{verb_word, IsBuilt};
+ghost use Rattle.hc_commands.specs.Grammar.{Form, is_built_form, IsForm, IsSpelled, command_of, names_after};
 ghost use Rattle.hc_commands.specs.Numbers.{IsCommandBelow};
 ghost use Rattle.hc_commands.specs.Words.{ArePlain};
 ghost use Rattle.hc_commands.specs.declared.verb.Verb.{Verb};
@@ -20,7 +20,7 @@ pub fn forms_are_told_apart()
 pub fn commands_are_named()
     ensures grow { (names : List (List ℕ)) (f : Form) → length names ≤ length (names_after names f) }
     ensures below { (names : List (List ℕ)) (f : Form) → IsForm f → IsCommandBelow (length (names_after names f)) (command_of names f) }
-    ensures built { (names : List (List ℕ)) (f : Form) → is_built (verb_of f) ≡ true → IsBuilt (command_of names f) }
+    ensures built { (names : List (List ℕ)) (f : Form) → is_built_form f ≡ true → IsBuilt (command_of names f) }
 {
     interning_keeps_names();
 }

@@ -1,7 +1,7 @@
 ghost use Rattle.std.specs.Prelude.{◌≡◌, IfSome, IfNone, map};
 ghost use Rattle.std.specs.Str.{bytes_eq};
 ghost use Rattle.hc_commands.specs.VerbTable.{look_up};
-ghost use Rattle.hc_commands.specs.Verbs.{verb_word, is_built};
+ghost use Rattle.hc_commands.specs.Verbs.{verb_word};
 
 /// What a command asks about a property of an object.
 #[derive(Clone, Copy)]
@@ -93,16 +93,4 @@ fn are_equal(a: &[u8], b: &[u8]) -> bool
     ensures { result ≡ bytes_eq a.now b.now }
 {
     a == b
-}
-
-impl Verb {
-    /// Whether the command that begins with it is built.
-    pub fn is_built(self) -> bool
-        ensures { result ≡ is_built self }
-    {
-        !matches!(
-            self,
-            Verb::Compile | Verb::Step | Verb::During | Verb::Finish
-        )
-    }
 }

@@ -4,3 +4,4 @@ pub mod Batching
 pub mod Starting
 pub mod Ending
 pub mod Stepping
+pub mod Handing

@@ -19,8 +19,8 @@ use Rattle.hc_sites.specs.declared.feedback.Feedback.{Feedback}
 use Rattle.hc_sites.specs.declared.state.SiteState.{SiteState}
 use Rattle.hc_compiler.specs.Calls.{IsNewJob, Starts}
 use Rattle.hc_compiler.specs.Feedback.{listed}
-use Rattle.hc_compiler.specs.Jobs.{AreNumbered, AreReading, IsReading, Opening, OthersStay}
-use Rattle.hc_compiler.proofs.Numbered.{count-with, each-of, numbered-after, others-put}
+use Rattle.hc_compiler.specs.Jobs.{AreReading, IsCompiling, IsReading, Opening, OthersStay}
+use Rattle.hc_compiler.proofs.Numbered.{count-with, each-of, next-is-kept, numbered-after, others-put}
 
 -- four places give at most four maps back
 pub listed-places : (maps : List ℕ) → length maps ≤ 4 → listed (places maps) ≡ maps
@@ -93,8 +93,13 @@ module _ {P : Type 0} (stay : OthersStayOpen) (a : ObjectsState P) (started late
   starts-case None h = tt
   starts-case (Some state) h = starts-at state h
 
-  pub numbered-more : AreNumbered (record { started = started; jobs = jobs }) → AreNumbered (record { started = later; jobs = more })
-  numbered-more h = numbered-after started later jobs more started others-stay (omega (arith, count)) (omega (arith, count)) h
+  pub compiling-more : (lent : List Opening) → length jobs + length lent < 64 → IsCompiling (record { started = started; jobs = jobs; lent = lent }) → IsCompiling (record { started = later; jobs = more; lent = lent })
+  compiling-more lent room h =
+      let one : length more ≡ length jobs + 1 = ap length last ∙ count-with jobs x in
+      record {
+        numbers = numbered-after started later jobs more lent started others-stay (omega (arith, count)) (omega (arith, count)) (next-is-kept (record { started = started; jobs = jobs; lent = lent }) h.numbers) h.numbers;
+        few = omega (arith, one, room);
+      }
 
   reading-at : StoresAreWrites → IsDesk a.heap.view a.heap.desk → (at : Option SiteState) → is_some at ≡ true → IfSome at (λ state. IsNewJob a started s state x) → IfSome at (λ state. AreWritten a.heap.view.trail state.maps) → IsReading a x
   reading-at writes desk None there new written = absurd (true≢false (sym there))

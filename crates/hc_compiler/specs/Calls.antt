@@ -1,6 +1,6 @@
 -- What the calls do with jobs.
 use Rattle.std.specs.Prelude.{◌≡◌, ℕ, ◌+◌, false, IsSomeAnd, Some, List, length}
-use Rattle.hc_board.specs.States.{new_reader, position_of}
+use Rattle.hc_board.specs.States.{beginning, counted, new_reader, position_of}
 use Rattle.hc_board.specs.Trail.{Access}
 use Rattle.hc_planner.specs.Jobs.{JobState}
 use Rattle.hc_jobs.specs.Opened.{is_open, open_at}
@@ -10,7 +10,7 @@ use Rattle.hc_jobs.specs.declared.table.OpenJob.{OpenJob}
 use Rattle.hc_modes.specs.State.{ObjectsState}
 use Rattle.hc_sites.specs.declared.state.SiteState.{SiteState}
 use Rattle.hc_compiler.specs.Batches.{MakesBatch, after_batch}
-use Rattle.hc_compiler.specs.Jobs.{OthersStay, opening_at, opening_of}
+use Rattle.hc_compiler.specs.Jobs.{Opening, OthersStay, OthersStayLent, is_lent, lent_at, opening_at, opening_of}
 
 -- a new job, with the site and the feedback of this moment; its reader is of the board, has no read and starts here
 pub record IsNewJob {P : Type 0} (a : ObjectsState P) (j s : ℕ) (state : SiteState) (x : OpenJob) : Type 0 where
@@ -23,6 +23,19 @@ pub record Starts {P : Type 0} (a : ObjectsState P) (jobs : List OpenJob) (j s :
   pub now : IsSomeAnd (open_at later j) (IsNewJob a j s state)
   pub others : OthersStay jobs later j
   pub count : length later ≡ length jobs + 1
+
+-- beside the jobs that callers have there is this one now, as it was given when it was started, with the position at which its
+-- reader began as readers count it
+pub record Lends (lent : List Opening) (x : OpenJob) (later : List Opening) : Type 0 where
+  pub now : lent_at later x.job.id ≡ Some (record (opening_of x) { start = counted (beginning x.reader) })
+  pub others : OthersStayLent lent later x.job.id
+  pub count : length later ≡ length lent + 1
+
+-- of the jobs that callers have, that of a number was taken back
+pub record TakesBack (lent : List Opening) (j : ℕ) (later : List Opening) : Type 0 where
+  pub gone : is_lent later j ≡ false
+  pub others : OthersStayLent lent later j
+  pub count : length later + 1 ≡ length lent
 
 -- of the open jobs, that of a number made a batch of reads, and is open still, with what it was given
 pub record Steps {P : Type 0} (n : Reads) (a : ObjectsState P) (jobs : List OpenJob) (j : ℕ) (b : ObjectsState P) (later : List OpenJob) : Type 0 where

@@ -9,9 +9,10 @@ mod compiler;
 mod ends;
 mod feedback;
 mod laws;
+mod lending;
 mod openings;
 
 pub use compiler::Compiler;
 pub use ends::log_end;
-pub use hc_jobs::Reads;
+pub use hc_jobs::{OpenJob, Reads};
 pub use laws::jobs_read_on;

@@ -60,6 +60,14 @@ impl JobTable {
         Ok(JobTable { jobs })
     }
 
+    /// How many jobs are in the table.
+    pub fn len(&self) -> usize
+        ensures len { result ≡ length self.now }
+        ensures few { result ≤ 64 }
+    {
+        self.jobs.len()
+    }
+
     /// Whether there is room for a job more.
     pub fn has_room(&self) -> bool
         ensures room { IsTrue result ↔ length self.now < 64 }

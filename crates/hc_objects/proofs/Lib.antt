@@ -11,3 +11,4 @@ pub mod Lawful
 pub mod Saying
 pub mod MadeReady
 pub mod Made
+pub mod Going

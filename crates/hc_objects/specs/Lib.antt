@@ -2,4 +2,5 @@ pub mod Came
 pub mod Changes
 pub mod State
 pub mod Following
+pub mod Onward
 pub mod Laws

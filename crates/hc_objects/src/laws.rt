@@ -1,6 +1,7 @@
 //! What follows of what was done, for proofs above. The functions do nothing: their contracts are laws.
 ghost use Rattle.std.specs.Prelude.{ℕ, ◌≡◌, ◌+◌, ◌≤◌, [], Some, IsSomeAnd};
 ghost use Rattle.hc_layout.specs.declared.words.CellWord.{CellWord};
+ghost use Rattle.hc_heap.specs.Lawful.{Lawful};
 ghost use Rattle.hc_heap.specs.Readings.{map_in, validity_in};
 ghost use Rattle.hc_table.specs.Changes.{Did};
 ghost use Rattle.hc_modes.specs.Admitting.{FactsStay, IsHonest};
@@ -8,7 +9,8 @@ ghost use Rattle.hc_modes.specs.Rest.{AreCalm};
 ghost use Rattle.hc_modes.specs.Spent.{IsSpent};
 ghost use Rattle.hc_modes.specs.State.{ObjectsState, IsObjects};
 ghost use Rattle.hc_modes.specs.Validity.{OnlyCells};
-ghost use Rattle.hc_objects.specs.Came.{Came, MadeLive, SaysStill, world_of};
+ghost use Rattle.hc_objects.specs.Came.{Came, IsStill, MadeLive, MovesOnce, SaysStill, world_of};
+ghost use Rattle.hc_objects.specs.Onward.{HasGoneOn};
 ghost use Rattle.hc_objects.specs.State.{IsStanding};
 
 use hc_facts::constants_stay_on;
@@ -52,6 +54,19 @@ pub fn fields_stay_honest<P: Pace>()
     ensures none { IsHonest [] }
 {
     hc_modes::fields_stay_honest::<P>();
+    constants_stay_on();
+}
+
+/// Whatever is done, the trail goes on and constants stay: over an operation, over moves alone, where an object is made live, and where
+/// a cell is made. So it is over several, one after the other.
+pub fn operations_go_on<P: Pace>()
+    ensures law { (a b : ObjectsState P) (did : Did) → Lawful a.heap.view.shape a.heap.view.trail → Came P.went a did b → HasGoneOn a b }
+    ensures live { (a b : ObjectsState P) (o : ℕ) → Lawful a.heap.view.shape a.heap.view.trail → MadeLive P.went a o b → HasGoneOn a b }
+    ensures moves { (a b : ObjectsState P) → Lawful a.heap.view.shape a.heap.view.trail → MovesOnce P.went a b → HasGoneOn a b }
+    ensures cells { (a b : ObjectsState P) → OnlyCells P.went a b → HasGoneOn a b }
+    ensures still { (a b : ObjectsState P) → Lawful a.heap.view.shape a.heap.view.trail → IsStill a b → HasGoneOn a b }
+    ensures onward { (a b c : ObjectsState P) → HasGoneOn a b → HasGoneOn b c → HasGoneOn a c }
+{
     constants_stay_on();
 }
 

@@ -18,7 +18,7 @@ mod readying;
 mod tables;
 
 pub use laws::{
-    cells_stand_alone, fields_stay_honest, operations_hand_out_no_cell, operations_spend_little,
-    operations_stand, prototypes_stay_calm, valid_cells_say,
+    cells_stand_alone, fields_stay_honest, operations_go_on, operations_hand_out_no_cell,
+    operations_spend_little, operations_stand, prototypes_stay_calm, valid_cells_say,
 };
 pub use objects::Objects;

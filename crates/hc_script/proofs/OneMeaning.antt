@@ -3,8 +3,7 @@ use Rattle.std.proofs.Common.{◌≡◌, ℕ, ◌+◌, ◌<◌, ◌≤◌, List,
 use Rattle.std.proofs.lemmas.Bool.{cases_Bool, cases_lt}
 use Rattle.std.specs.Prelude.{Bool}
 use Rattle.hc_commands.specs.Words.{words_of, is_skipped}
-use Rattle.hc_commands.specs.Verbs.{is_built}
-use Rattle.hc_commands.specs.Grammar.{Form, verb_of, IsForm, IsSpelled, HaveNoForm, command_of, names_after}
+use Rattle.hc_commands.specs.Grammar.{Form, is_built_form, IsForm, IsSpelled, HaveNoForm, command_of, names_after}
 use Rattle.hc_commands.specs.Asks.{AsksFor, AreUnbuilt}
 use Rattle.hc_lines.specs.Lines.{content, IsShort}
 use Rattle.hc_lines.specs.declared.limits.TheConstants.{MAX_BYTES, MAX_LINE}
@@ -50,10 +49,10 @@ has_form : (names words after : List (List ℕ)) (command : Command) → AsksFor
 has_form names words after command asks none = none asks.form asks.is_form asks.spelling
 
 -- and aren't those of a command that isn't built
-built_or_unbuilt : AreApart → (words : List (List ℕ)) (form : Form) → IsForm form → IsSpelled form words → is_built (verb_of form) ≡ true → AreUnbuilt words → ⊥
+built_or_unbuilt : AreApart → (words : List (List ℕ)) (form : Form) → IsForm form → IsSpelled form words → is_built_form form ≡ true → AreUnbuilt words → ⊥
 built_or_unbuilt apart words form is spelled built unbuilt =
     let same : form ≡ unbuilt.form = apart form unbuilt.form words is unbuilt.is_form spelled unbuilt.spelling in
-    contrary (is_built (verb_of form)) built (rw same unbuilt.unbuilt)
+    contrary (is_built_form form) built (rw same unbuilt.unbuilt)
 
 -- a line that asks for a command is refused nowhere
 pub asked_or_refused : AreApart → (at : Position) (line : List ℕ) (command : Command) (after : Position) (what : What) → IsAsked at line command after → IsRefused at line what → ⊥
@@ -118,14 +117,14 @@ refused_once apart at line Names Unbuilt a b = absurd (built_or_unbuilt apart (w
 pub some_meaning : (at : Position) (line : List ℕ) → ((after : Position) → IsPassed at line after → ⊥) → ((command : Command) (after : Position) → IsAsked at line command after → ⊥) → ((what : What) → IsRefused at line what → ⊥) → ⊥
 some_meaning at line passed asked refused = by_bytes (cases_lt MAX_BYTES (at.bytes + length line)) where
   by_form : IsWithin at line → IsQuestion line → is_plain line ≡ true → (form : Form) → IsForm form → IsSpelled form (words_of line) → ⊥
-  by_form within question plain form is spelled = by_built (cases_Bool (is_built (verb_of form))) where
-    by_room : is_built (verb_of form) ≡ true → (MAX_NAMES < length (names_after at.names form)) ⊎ (length (names_after at.names form) ≤ MAX_NAMES) → ⊥
+  by_form within question plain form is spelled = by_built (cases_Bool (is_built_form form)) where
+    by_room : is_built_form form ≡ true → (MAX_NAMES < length (names_after at.names form)) ⊎ (length (names_after at.names form) ≤ MAX_NAMES) → ⊥
     by_room built (inl more) = refused Names (within, record { question = question; plain = plain; form = form; is_form = is; spelling = spelled; built = built; too_many = more })
     by_room built (inr room) =
         let asks : AsksFor at.names (words_of line) (command_of at.names form) (names_after at.names form) = record { form = form; is_form = is; spelling = spelled; built = built; command_is = refl; names_are = refl } in
         asked (command_of at.names form) (behind at line (names_after at.names form)) (record { within = within; understood = record { question = question; plain = plain; asks = asks; room = room }; goes_on = refl })
 
-    by_built : (is_built (verb_of form) ≡ true) ⊎ (is_built (verb_of form) ≡ false) → ⊥
+    by_built : (is_built_form form ≡ true) ⊎ (is_built_form form ≡ false) → ⊥
     by_built (inl built) = by_room built (cases_lt MAX_NAMES (length (names_after at.names form)))
     by_built (inr unbuilt) = refused Unbuilt (within, (question, plain, record { form = form; is_form = is; spelling = spelled; unbuilt = unbuilt }))
 

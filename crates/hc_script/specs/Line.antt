@@ -4,8 +4,7 @@ use Rattle.std.specs.List.{list_all}
 use Rattle.hc_names.specs.declared.TheConstants.{MAX_NAMES}
 use Rattle.hc_lines.specs.Lines.{content, IsLong, IsShort}
 use Rattle.hc_commands.specs.Words.{is_plain_byte, words_of, is_skipped}
-use Rattle.hc_commands.specs.Verbs.{is_built}
-use Rattle.hc_commands.specs.Grammar.{Form, verb_of, IsForm, IsSpelled, names_after, HaveNoForm}
+use Rattle.hc_commands.specs.Grammar.{Form, is_built_form, IsForm, IsSpelled, names_after, HaveNoForm}
 use Rattle.hc_commands.specs.Asks.{AsksFor, AreUnbuilt}
 use Rattle.hc_commands.specs.declared.command.Command.{Command}
 use Rattle.hc_script.specs.declared.fault.What.{What}
@@ -33,7 +32,7 @@ pub record AsksForTooMany (names : List (List ℕ)) (line : List ℕ) : Type 0 w
   pub form : Form
   pub is_form : IsForm form
   pub spelling : IsSpelled form (words_of line)
-  pub built : is_built (verb_of form) ≡ true
+  pub built : is_built_form form ≡ true
   pub too_many : MAX_NAMES < length (names_after names form)
 
 -- the line is refused behind these names, by itself: as too long; for a byte, or for words that have no form; for a

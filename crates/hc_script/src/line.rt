@@ -48,7 +48,7 @@ fn meaning_of_question(names: &mut Names, line: &[u8]) -> Result<Meaning, Memory
     let Some(request) = plain_request_of(line) else {
         return Ok(Meaning::Refused(What::Form));
     };
-    if !request.verb().is_built() {
+    if !request.is_built() {
         return Ok(Meaning::Refused(What::Unbuilt));
     }
     match command_for(names, &request) {

@@ -27,7 +27,7 @@ use Rattle.hc_table.specs.Kept.{Kept as Tables, with_world}
 use Rattle.hc_table.specs.World.{World}
 use Rattle.hc_commands.specs.declared.command.Command.TheVariants.{Exec}
 use Rattle.hc_report.specs.declared.line.Line.{Line}
-use Rattle.hc_session.specs.Plain.{PlainState, act_in, exec_act, is_accepted_at, is_access}
+use Rattle.hc_session.specs.Plain.{PlainState, act_in, exec_act, is_accepted_at, is_access, none_started}
 use Rattle.hc_session.specs.Serving.{Serves, way_line}
 use Rattle.hc_session.specs.Standing.{plain_with, tables_of}
 use Rattle.hc_session.specs.State.{Became, IsCheap, NotedInWant, sites_at}
@@ -46,7 +46,7 @@ on-err {A} {B} {X} (Err fault) holds = holds
 
 -- an access at sites that tables see so
 abbrev pub sees : Tables → List SiteState → PlainState
-sees tables sites = record { tables = tables; sites = map (λ (x : SiteState). x.site) sites }
+sees tables sites = record { tables = tables; sites = map (λ (x : SiteState). x.site) sites; jobs = none_started }
 
 -- the line of an access whose receiver was migrated
 abbrev pub line_at : {P : Type 0} → ObjectsState P → List SiteState → ℕ → ℕ → List (ℕ × Line)

@@ -6,14 +6,16 @@ use Rattle.hc_access.specs.Accesses.{events_at, note_events, site_at, with_event
 use Rattle.hc_access.specs.Laws.{events-sites}
 use Rattle.hc_commands.specs.Numbers.{IsCommandBelow}
 use Rattle.hc_commands.specs.declared.command.Command.{Command}
-use Rattle.hc_commands.specs.declared.command.Command.TheVariants.{Declare, Exec}
+use Rattle.hc_commands.specs.declared.command.Command.TheVariants.{Declare, Exec, Compile, Step, Finish}
 use Rattle.hc_modes.specs.State.{ObjectsState}
 use Rattle.hc_plan.specs.declared.case.Site.{Site}
 use Rattle.hc_sites.specs.Events.{Event}
 use Rattle.hc_sites.specs.State.{new_site}
 use Rattle.hc_sites.specs.declared.state.SiteState.{SiteState}
 use Rattle.hc_slots.specs.Cases.{some-is}
-use Rattle.hc_session.specs.Plain.{HasSiteNumber, is_access, sites_after}
+use Rattle.hc_compiler.specs.Jobs.{Opening, is_lent}
+use Rattle.hc_session.specs.Jobs.{IsNotLent}
+use Rattle.hc_session.specs.Plain.{HasJobNumber, HasSiteNumber, is_access, sites_after}
 use Rattle.hc_session.specs.Serving.{AreNamedSites}
 use Rattle.hc_session.specs.Standing.{plain_with}
 use Rattle.hc_session.specs.State.{sites_at, sites_by, sites_in_want}
@@ -22,6 +24,16 @@ use Rattle.hc_session.specs.State.{sites_at, sites_by, sites_in_want}
 pub number_left : (count : ℕ) (command : Command) → count < 2 ^ 32 - 1 → HasSiteNumber count command
 number_left count (Declare op name) few = few
 number_left count command few = tt
+
+pub job_number_left : (started : ℕ) (command : Command) → started < 2 ^ 32 - 1 → HasJobNumber started command
+job_number_left started (Compile s) few = few
+job_number_left started command few = tt
+
+-- where callers have none
+pub none_lent : (lent : List Opening) (command : Command) → lent ≡ [] → IsNotLent lent command
+none_lent lent (Step j reads) none = ap (λ (xs : List Opening). is_lent xs j) none
+none_lent lent (Finish j) none = ap (λ (xs : List Opening). is_lent xs j) none
+none_lent lent command none = tt
 
 -- a command declares one at most
 one-sites : (sites : List SiteState) (s : ℕ) (events : List Event) → length (with_events sites s events) ≡ length sites

@@ -22,7 +22,7 @@ use mathlib.Core.Logic.{inl, inr}
 
 -- nothing was done
 stays_put : {P : Type 0} (session : Standing P) → Wants any_pace session (New None) session
-stays_put {P} session = inl (record { objects = refl; sites = refl; log = refl; marks = refl })
+stays_put {P} session = inl (record { objects = refl; sites = refl; compiler = refl; log = refl; marks = refl })
 
 -- there is no memory for a reader
 pub ends_unbegun : {P : Type 0} (law : SpendLittle P) (few : FewCells P) (session : Standing P) (stands : Stands session.objects) (a b : Outside) → b.taken ≡ a.taken → KeepsSession session a session Memory b

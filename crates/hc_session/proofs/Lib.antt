@@ -2,8 +2,11 @@ pub mod Causes
 pub mod Declares
 pub mod Endings
 pub mod Ends
+pub mod Entered
 pub mod FirstRefused
+pub mod Keeps
 pub mod Marked
+pub mod Readers
 pub mod NamedActs
 pub mod NamedChanges
 pub mod NamedReplies
@@ -16,8 +19,11 @@ pub mod Pieces
 pub mod Readied
 pub mod Rendered
 pub mod Runs
+pub mod Seen
 pub mod Sited
 pub mod Spends
 pub mod Takes
 pub mod Uses
+pub mod Worked
+pub mod Working
 pub mod Accessed

@@ -1,12 +1,12 @@
 -- Commands keep that each name and each text in the objects has its number among the names, and so have their replies.
 use Rattle.std.proofs.Common.{◌≡◌, ℕ, ◌<◌, ◌≤◌, Bool, true, false, ◌&&◌, List, [], ◌∷◌, length, refl, ap, arith, Option, Some, None}
-use Rattle.std.specs.Prelude.{◌==◌, if◌then◌else◌, IfSome, slice_get}
+use Rattle.std.specs.Prelude.{◌==◌, if◌then◌else◌, IfSome, is_some, slice_get}
 use Rattle.hc_names.specs.declared.TheConstants.{MAX_NAMES}
 use Rattle.hc_value.specs.declared.prop.Held.{Held}
 use Rattle.hc_value.specs.declared.prop.Held.TheVariants.{Datum, Pair}
 use Rattle.hc_value.specs.declared.prop.Prop.{Prop}
 use Rattle.hc_value.specs.declared.reply.Reply.{Reply}
-use Rattle.hc_value.specs.declared.reply.Reply.TheVariants.{Flag, NoObject, NoSite, WrongSite, Shape as HowKept}
+use Rattle.hc_value.specs.declared.reply.Reply.TheVariants.{Fine, Finished, Flag, Job, NoJob, NoObject, NoRoom, NoSite, WrongSite, Shape as HowKept}
 use Rattle.hc_value.specs.declared.value.Value.{Value}
 use Rattle.hc_value.specs.declared.value.Value.TheVariants.{Undefined, Null, Bool as Boolean, Int, Text, Obj}
 use Rattle.hc_value.specs.declared.word.TheConstants.{TEXT_LIMIT}
@@ -16,13 +16,13 @@ use Rattle.hc_table.specs.World.{World, props_at}
 use Rattle.hc_ops.specs.Act.{Act}
 use Rattle.hc_commands.specs.Numbers.{IsValueBelow, IsGivenBelow, IsCommandBelow}
 use Rattle.hc_commands.specs.declared.command.Command.{Command}
-use Rattle.hc_commands.specs.declared.command.Command.TheVariants.{New, Get, Set, Define, Has, Own, Delete, Keys, Proto, SetProto, Extensible, Lock, Seal, Freeze, Shape, Same, Declare, Exec}
+use Rattle.hc_commands.specs.declared.command.Command.TheVariants.{New, Get, Set, Define, Has, Own, Delete, Keys, Proto, SetProto, Extensible, Lock, Seal, Freeze, Shape, Same, Declare, Exec, Compile, Step, Finish}
 use Rattle.hc_report.specs.Named.{IsNamedHeld, IsNamedReply}
 use Rattle.hc_session.specs.Named.{AreNamedProps, IsNamedWorld}
 use Rattle.hc_plan.specs.declared.case.Op.{Op}
 use Rattle.hc_plan.specs.declared.case.Op.TheVariants.{Load, Store}
 use Rattle.hc_plan.specs.declared.case.Site.{Site}
-use Rattle.hc_session.specs.Plain.{Answer, AnswersPlainly, PlainState, access_act, act_in, exec_act}
+use Rattle.hc_session.specs.Plain.{Answer, AnswersPlainly, PlainState, access_act, act_in, exec_act, has_room, is_opened}
 use Rattle.hc_session.specs.Serving.{AreNamedSites}
 use Rattle.hc_session.specs.Tables.{HasNumbers, IsHowKept, IsReplyOf, act_of, act_there, all_there, did_in, is_among, names_among, says}
 use Rattle.hc_session.proofs.NamedActs.{IsNamedAct, either_act, defined_named, deleted_named, linked_named, locked_named}
@@ -142,9 +142,22 @@ site_named : (count : ℕ) (sites : List Site) (s : ℕ) (site : Option Site) �
 site_named count sites s None is named = tt
 site_named count sites s (Some site) is named = named s site is
 
+-- a command of jobs
+compile_shown : (count n : ℕ) (there room : Bool) → IsNamedReply count (if there then (if room then Job n else NoRoom) else NoSite)
+compile_shown count n true true = tt
+compile_shown count n true false = tt
+compile_shown count n false room = tt
+
+job_shown : (count : ℕ) (there : Bool) (reply : Reply) → IsNamedReply count reply → IsNamedReply count (if there then reply else NoJob)
+job_shown count true reply named = named
+job_shown count false reply named = tt
+
 in_named : (count : ℕ) (plain : PlainState) (command : Command) → IsNamedWorld count plain.tables.world → AreNamedSites count plain.sites → IsCommandBelow count command → AreNamedActs count (act_in plain command)
 in_named count plain (Declare op name) named sites of_command = (tt, tt)
 in_named count plain (Exec s o value) named sites of_command = exec_named count plain.tables o value (slice_get plain.sites s) named (site_named count plain.sites s (slice_get plain.sites s) refl sites) of_command
+in_named count plain (Compile s) named sites of_command = says_named count _ (compile_shown count plain.jobs.started (is_some (slice_get plain.sites s)) (has_room plain.jobs))
+in_named count plain (Step j reads) named sites of_command = says_named count _ (job_shown count (is_opened plain.jobs.opened j) Fine tt)
+in_named count plain (Finish j) named sites of_command = says_named count _ (job_shown count (is_opened plain.jobs.opened j) Finished tt)
 in_named count plain command named sites of_command = act_named count plain.tables command named of_command
 
 -- a command whose names and texts are among the names: its reply can be shown, and the objects keep such names and texts

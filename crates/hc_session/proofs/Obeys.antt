@@ -10,13 +10,7 @@ use Rattle.hc_value.specs.declared.reply.Reply.TheVariants.{NoObject, Site as Si
 use Rattle.hc_value.specs.declared.value.Value.{Value}
 use Rattle.hc_value.specs.declared.memory.Memory.{Memory}
 use Rattle.hc_value.specs.declared.word.TheConstants.{TEXT_LIMIT}
-use Rattle.hc_access.specs.Accesses.{AskedCell}
-use Rattle.hc_facts.specs.Laws.{ConstantsStayOn}
-use Rattle.hc_heap.specs.Frames.{goes-further, goes-still}
-use Rattle.hc_heap.specs.Kept.{GoesOn}
-use Rattle.hc_heap.specs.Lawful.{Lawful}
-use Rattle.hc_heap.specs.Writes.{Trail}
-use Rattle.hc_layout.specs.declared.shape.Shape.{Shape as Shapes}
+use Rattle.hc_compiler.specs.Jobs.{Compiling}
 use Rattle.hc_access.specs.Entries.{is_cached}
 use Rattle.hc_plan.specs.declared.case.Op.{Op}
 use Rattle.hc_sites.specs.State.{new_site}
@@ -24,43 +18,44 @@ use Rattle.hc_sites.specs.declared.state.SiteState.{SiteState}
 use Rattle.hc_table.specs.Changes.{Did, Nothing, after}
 use Rattle.hc_table.specs.Kept.{Kept as Tables, with_world}
 use Rattle.hc_ops.specs.Act.{Act}
-use Rattle.hc_modes.specs.State.{ObjectsState, IsObjects}
-use Rattle.hc_modes.specs.Admitting.{ConstantsStay, FactsStay}
-use Rattle.hc_modes.specs.Rest.{AreCalm}
-use Rattle.hc_modes.specs.Validity.{OnlyCells}
-use Rattle.hc_objects.specs.Came.{Came, IsStill}
-use Rattle.hc_objects.specs.Laws.{came-shape, once-moves}
+use Rattle.hc_modes.specs.State.{ObjectsState}
+use Rattle.hc_modes.specs.Admitting.{ConstantsStay}
+use Rattle.hc_objects.specs.Came.{IsStill}
+use Rattle.hc_objects.specs.Laws.{once-moves}
+use Rattle.hc_session.specs.Jobs.{Works}
 use Rattle.hc_commands.specs.declared.command.Command.{Command}
-use Rattle.hc_commands.specs.declared.command.Command.TheVariants.{Shape, Same, Declare, Exec}
+use Rattle.hc_commands.specs.declared.command.Command.TheVariants.{Shape, Same, Declare, Exec, Compile, Step, Finish}
 use Rattle.hc_report.specs.Lines.{log_line}
 use Rattle.hc_report.specs.declared.line.Line.{Line}
 use Rattle.hc_report.specs.declared.line.Line.TheVariants.{Cache, Slow}
 use Rattle.hc_report.specs.declared.marks.Mark.{Mark}
 use Rattle.hc_session.specs.Logging.{IsLegalLine, answers_in, lines_since, log_text, mark_of}
-use Rattle.hc_session.specs.Plain.{IsLogText, IsServed, IsTextIf, PlainState, act_in, is_access, is_of_sites, sites_after}
-use Rattle.hc_session.specs.Serving.{AreNamedSites, Serves, lines_of, way_line}
-use Rattle.hc_session.specs.Standing.{Standing, plain_of, plain_with, tables_of}
+use Rattle.hc_session.specs.Plain.{AreJobsAfter, IsLogText, IsServed, IsTextIf, PlainJobs, PlainState, act_in, is_accepted_job, is_access, is_beside, is_of_jobs, none_started, sites_after}
+use Rattle.hc_session.specs.Serving.{AreNamedSites, Serves, ServesBeside, lines_of, way_line}
+use Rattle.hc_session.specs.Standing.{Standing, jobs_of, plain_of, plain_with, tables_of}
 use Rattle.hc_session.specs.State.{Became, Does, IsCheap, IsTrueReply, NotedInWant, Stands, Used, Wants, answer_since, sites_by}
 use Rattle.hc_session.specs.Tables.{AnswersOnTables, HasNumbers, IsOnTables, IsReplyOf, act_of, all_there, did_by, did_in, says}
-use Rattle.hc_objects.specs.State.{IsStanding}
 use Rattle.hc_session.specs.Using.{AreReadied, MovesInWant, is_accepted, uses_if}
 use Rattle.hc_session.proofs.Declares.{sites-named, sites-seen, want-named}
-use Rattle.hc_session.proofs.Readied.{IsKept, readied-tables, result-keeps}
+use Rattle.hc_session.proofs.Readied.{readied-tables}
 use mathlib.Core.Logic.{inl, inr}
 
 -- a served command that asks nothing of how objects are kept, nor of sites
-pub on_tables : (command : Command) → IsServed command → is_of_sites command ≡ false → ((o : ℕ) → command ≡ Shape o → ⊥) → ((a b : ℕ) → command ≡ Same a b → ⊥) → IsOnTables command
+pub on_tables : (command : Command) → IsServed command → is_beside command ≡ false → ((o : ℕ) → command ≡ Shape o → ⊥) → ((a b : ℕ) → command ≡ Same a b → ⊥) → IsOnTables command
 on_tables (Shape o) served objects no_shape no_same = absurd (no_shape o refl)
 on_tables (Same a b) served objects no_shape no_same = absurd (no_same a b refl)
 on_tables (Declare op name) served objects no_shape no_same = absurd (cc)
 on_tables (Exec s o value) served objects no_shape no_same = absurd (cc)
+on_tables (Compile s) served objects no_shape no_same = absurd (cc)
+on_tables (Step j reads) served objects no_shape no_same = absurd (cc)
+on_tables (Finish j) served objects no_shape no_same = absurd (cc)
 on_tables command served objects no_shape no_same = served
 
--- a command that neither declares a site nor is an access
-pub of_objects : (command : Command) → ((op : Op) (name : ℕ) → command ≡ Declare op name → ⊥) → ((s o : ℕ) (value : Option Value) → command ≡ Exec s o value → ⊥) → is_of_sites command ≡ false
-of_objects (Declare op name) no_site no_access = absurd (no_site op name refl)
-of_objects (Exec s o value) no_site no_access = absurd (no_access s o value refl)
-of_objects command no_site no_access = refl
+-- a command that neither declares a site nor is an access, and isn't one of jobs
+pub of_objects : (command : Command) → ((op : Op) (name : ℕ) → command ≡ Declare op name → ⊥) → ((s o : ℕ) (value : Option Value) → command ≡ Exec s o value → ⊥) → is_of_jobs command ≡ false → is_beside command ≡ false
+of_objects (Declare op name) no_site no_access no_jobs = absurd (no_site op name refl)
+of_objects (Exec s o value) no_site no_access no_jobs = absurd (no_access s o value refl)
+of_objects command no_site no_access no_jobs = no_jobs
 
 -- its reply says nothing of it
 told_nothing : {P : Type 0} (objects : ObjectsState P) (command : Command) (reply : Reply) → IsOnTables command → IsTrueReply objects command reply
@@ -87,12 +82,15 @@ same_does_nothing tables a b = nothing_done (all_there tables (Same a b))
 
 -- A command on objects, where there are sites beside them
 
-same_act : (plain : PlainState) (command : Command) → is_of_sites command ≡ false → act_in plain command ≡ act_of plain.tables command
+same_act : (plain : PlainState) (command : Command) → is_beside command ≡ false → act_in plain command ≡ act_of plain.tables command
 same_act plain (Declare op name) objects = absurd (cc)
 same_act plain (Exec s o value) objects = absurd (cc)
+same_act plain (Compile s) objects = absurd (cc)
+same_act plain (Step j reads) objects = absurd (cc)
+same_act plain (Finish j) objects = absurd (cc)
 same_act plain command objects = refl
 
-same_states : {P : Type 0} (objects : ObjectsState P) (sites : List SiteState) (command : Command) → is_of_sites command ≡ false → sites_by objects sites command ≡ sites
+same_states : {P : Type 0} (objects : ObjectsState P) (sites : List SiteState) (command : Command) → is_beside command ≡ false → sites_by objects sites command ≡ sites
 same_states {P} objects sites (Declare op name) on = absurd (cc)
 same_states {P} objects sites (Exec s o value) on = absurd (cc)
 same_states {P} objects sites command on = refl
@@ -100,26 +98,29 @@ same_states {P} objects sites command on = refl
 pub wanted_states : {P : Type 0} (went : P → List Access → List Access → P → Type 0) (objects : ObjectsState P) (sites : List SiteState) (command : Command) → NotedInWant went objects sites command sites
 wanted_states {P} went objects sites command = inl refl
 
-no_lines : {P : Type 0} (objects : ObjectsState P) (sites : List SiteState) (command : Command) → is_of_sites command ≡ false → lines_of objects sites command ≡ []
+no_lines : {P : Type 0} (objects : ObjectsState P) (sites : List SiteState) (command : Command) → is_beside command ≡ false → lines_of objects sites command ≡ []
 no_lines {P} objects sites (Declare op name) on = refl
 no_lines {P} objects sites (Exec s o value) on = absurd (cc)
 no_lines {P} objects sites command on = refl
 
-no_more_lines : {P : Type 0} (objects : ObjectsState P) (sites : List SiteState) (log : List (ℕ × Line)) (command : Command) → is_of_sites command ≡ false → log ≡ log ++ lines_of objects sites command
+no_more_lines : {P : Type 0} (objects : ObjectsState P) (sites : List SiteState) (log : List (ℕ × Line)) (command : Command) → is_beside command ≡ false → log ≡ log ++ lines_of objects sites command
 no_more_lines {P} objects sites log command on = sym (ap (λ (xs : List (ℕ × Line)). log ++ xs) (no_lines objects sites command on) ∙ append-nil log)
 
-not_cheap : {P : Type 0} (objects ready new : ObjectsState P) (sites : List SiteState) (command : Command) → is_of_sites command ≡ false → IsCheap objects ready sites command new
+not_cheap : {P : Type 0} (objects ready new : ObjectsState P) (sites : List SiteState) (command : Command) → is_beside command ≡ false → IsCheap objects ready sites command new
 not_cheap {P} objects ready new sites (Declare op name) on = tt
 not_cheap {P} objects ready new sites (Exec s o value) on = absurd (cc)
 not_cheap {P} objects ready new sites command on = tt
 
 -- it is accepted where each object that it names is there
-pub accepted_there : {P : Type 0} (objects : ObjectsState P) (sites : List SiteState) (command : Command) → is_of_sites command ≡ false → is_accepted (plain_with objects sites) command ≡ all_there (tables_of objects) command
+pub accepted_there : {P : Type 0} (objects : ObjectsState P) (sites : List SiteState) (command : Command) → is_beside command ≡ false → is_accepted (plain_with objects sites) command ≡ all_there (tables_of objects) command
 accepted_there {P} objects sites (Declare op name) on = absurd (cc)
 accepted_there {P} objects sites (Exec s o value) on = absurd (cc)
+accepted_there {P} objects sites (Compile s) on = absurd (cc)
+accepted_there {P} objects sites (Step j reads) on = absurd (cc)
+accepted_there {P} objects sites (Finish j) on = absurd (cc)
 accepted_there {P} objects sites command on = refl
 
-serve_objects : {P : Type 0} (went : P → List Access → List Access → P → Type 0) (old new : ObjectsState P) (sites : List SiteState) (log : List (ℕ × Line)) (command : Command) (reply : Reply) → is_of_sites command ≡ false → AnswersOnTables (tables_of old) command reply (tables_of new) → IsTrueReply new command reply
+serve_objects : {P : Type 0} (went : P → List Access → List Access → P → Type 0) (old new : ObjectsState P) (sites : List SiteState) (log : List (ℕ × Line)) (command : Command) (reply : Reply) → is_beside command ≡ false → AnswersOnTables (tables_of old) command reply (tables_of new) → IsTrueReply new command reply
     → Used went old (all_there (tables_of old) command) command (did_by (tables_of old) command) new → Serves went old sites log command reply new sites log
 serve_objects {P} went old new sites log command reply on answers kept used =
     let act : act_in (plain_with old sites) command ≡ act_of (tables_of old) command = same_act (plain_with old sites) command on in
@@ -139,13 +140,13 @@ serve_objects {P} went old new sites log command reply on answers kept used =
       cheap = not_cheap old used.ready new sites command on;
     }
 
-pub result_serves : {P : Type 0} (went : P → List Access → List Access → P → Type 0) (old new : ObjectsState P) (sites : List SiteState) (command : Command) (r : Result Reply Memory) → is_of_sites command ≡ false → IfOk r (λ reply. AnswersOnTables (tables_of old) command reply (tables_of new)) → IfOk r (λ reply. IsTrueReply new command reply)
+pub result_serves : {P : Type 0} (went : P → List Access → List Access → P → Type 0) (old new : ObjectsState P) (sites : List SiteState) (command : Command) (r : Result Reply Memory) → is_beside command ≡ false → IfOk r (λ reply. AnswersOnTables (tables_of old) command reply (tables_of new)) → IfOk r (λ reply. IsTrueReply new command reply)
     → OnOk r (Used went old (all_there (tables_of old) command) command (did_by (tables_of old) command) new) → IfOk r (λ reply. (log : List (ℕ × Line)) → Serves went old sites log command reply new sites log)
 result_serves {P} went old new sites command (Ok reply) on answers kept used = λ log. serve_objects went old new sites log command reply on answers kept used
 result_serves {P} went old new sites command (Err fault) on answers kept used = tt
 
 -- what is left for want of memory, where there are sites beside the objects
-pub result_left : {P : Type 0} (went : P → List Access → List Access → P → Type 0) (old new : ObjectsState P) (sites : List SiteState) (command : Command) (r : Result Reply Memory) → is_of_sites command ≡ false
+pub result_left : {P : Type 0} (went : P → List Access → List Access → P → Type 0) (old new : ObjectsState P) (sites : List SiteState) (command : Command) (r : Result Reply Memory) → is_beside command ≡ false
     → OnErr r (MovesInWant went old (uses_if (all_there (tables_of old) command) command) new) → OnErr r (MovesInWant went old (uses_if (is_accepted (plain_with old sites) command) command) new)
 result_left {P} went old new sites command (Ok reply) on want = tt
 result_left {P} went old new sites command (Err fault) on want = subst (λ (x : Bool). MovesInWant went old (uses_if x command) new) (sym (accepted_there old sites command on)) want
@@ -178,25 +179,25 @@ result_with {P} went objects new old now command (Err fault) log serves = tt
 
 -- What stands in the log
 
-way_legal : {P : Type 0} (old : Standing P) (ready : ObjectsState P) (s o : ℕ) (value : Option Value) (cached : Bool) → is_access (plain_of old) (Exec s o value) ≡ true → is_cached ready.heap.view.trail old.sites s o ≡ cached → IsLegalLine old ready (Exec s o value) (counted (length ready.heap.desk.trail)) (way_line cached s)
-way_legal {P} old ready s o value true accepted is = (refl, record { accepted = accepted; position = refl; way = is })
-way_legal {P} old ready s o value false accepted is = (refl, record { accepted = accepted; position = refl; way = is })
+way_legal : {P : Type 0} (old : Standing P) (ready now : ObjectsState P) (s o : ℕ) (value : Option Value) (cached : Bool) → is_access (plain_of old) (Exec s o value) ≡ true → is_cached ready.heap.view.trail old.sites s o ≡ cached → IsLegalLine old ready (Exec s o value) now (counted (length ready.heap.desk.trail)) (way_line cached s)
+way_legal {P} old ready now s o value true accepted is = (refl, record { accepted = accepted; position = refl; way = is })
+way_legal {P} old ready now s o value false accepted is = (refl, record { accepted = accepted; position = refl; way = is })
 
-abbrev AreLegal : {P : Type 0} → Standing P → ObjectsState P → Command → List (ℕ × Line) → Type 0
-AreLegal old ready command lines = AllByRecursion (λ (entry : ℕ × Line). IsLegalLine old ready command entry.0 entry.1) lines
+abbrev pub AreLegal : {P : Type 0} → Standing P → ObjectsState P → Command → ObjectsState P → List (ℕ × Line) → Type 0
+AreLegal old ready command now lines = AllByRecursion (λ (entry : ℕ × Line). IsLegalLine old ready command now entry.0 entry.1) lines
 
-access_legal : {P : Type 0} (old : Standing P) (ready : ObjectsState P) (s o : ℕ) (value : Option Value) (b : Bool) → is_access (plain_of old) (Exec s o value) ≡ b
-    → AreLegal old ready (Exec s o value) (if b then (counted (length ready.heap.desk.trail), way_line (is_cached ready.heap.view.trail old.sites s o) s) ∷ [] else [])
-access_legal {P} old ready s o value true is = (way_legal old ready s o value (is_cached ready.heap.view.trail old.sites s o) is refl, tt)
-access_legal {P} old ready s o value false is = tt
+access_legal : {P : Type 0} (old : Standing P) (ready now : ObjectsState P) (s o : ℕ) (value : Option Value) (b : Bool) → is_access (plain_of old) (Exec s o value) ≡ b
+    → AreLegal old ready (Exec s o value) now (if b then (counted (length ready.heap.desk.trail), way_line (is_cached ready.heap.view.trail old.sites s o) s) ∷ [] else [])
+access_legal {P} old ready now s o value true is = (way_legal old ready now s o value (is_cached ready.heap.view.trail old.sites s o) is refl, tt)
+access_legal {P} old ready now s o value false is = tt
 
 -- an access is accepted as it was, once its receiver was migrated
 same_access : {P : Type 0} (old ready : ObjectsState P) (sites : List SiteState) (command : Command) → tables_of ready ≡ tables_of old → is_access (plain_with ready sites) command ≡ is_access (plain_with old sites) command
-same_access {P} old ready sites command same = ap (λ (t : Tables). is_access (record { tables = t; sites = map (λ (x : SiteState). x.site) sites }) command) same
+same_access {P} old ready sites command same = ap (λ (t : Tables). is_access (record { tables = t; sites = map (λ (x : SiteState). x.site) sites; jobs = none_started }) command) same
 
-lines_legal : {P : Type 0} (old : Standing P) (ready : ObjectsState P) (command : Command) → tables_of ready ≡ tables_of old.objects → AreLegal old ready command (lines_of ready old.sites command)
-lines_legal {P} old ready (Exec s o value) same = access_legal old ready s o value (is_access (plain_with ready old.sites) (Exec s o value)) (sym (same_access old.objects ready old.sites (Exec s o value) same))
-lines_legal {P} old ready command same = tt
+lines_legal : {P : Type 0} (old : Standing P) (ready now : ObjectsState P) (command : Command) → tables_of ready ≡ tables_of old.objects → AreLegal old ready command now (lines_of ready old.sites command)
+lines_legal {P} old ready now (Exec s o value) same = access_legal old ready now s o value (is_access (plain_with ready old.sites) (Exec s o value)) (sym (same_access old.objects ready old.sites (Exec s o value) same))
+lines_legal {P} old ready now command same = tt
 
 one_way : (at s : ℕ) (cached : Bool) → answers_in ((at, way_line cached s) ∷ []) ≡ 1
 one_way at s true = refl
@@ -220,97 +221,83 @@ text_if : (b : Bool) (at s : ℕ) (cached : Bool) → IsTextIf b s (log_text (if
 text_if true at s cached = way_text at s cached
 text_if false at s cached = refl
 
-line_text : {P : Type 0} (old : Standing P) (ready : ObjectsState P) (command : Command) → tables_of ready ≡ tables_of old.objects → IsLogText (plain_of old) command (log_text (lines_of ready old.sites command))
-line_text {P} old ready (Exec s o value) same =
+line_text : {P : Type 0} (old : Standing P) (ready : ObjectsState P) (command : Command) → is_of_jobs command ≡ false → tables_of ready ≡ tables_of old.objects → IsLogText (plain_of old) command (log_text (lines_of ready old.sites command))
+line_text {P} old ready (Finish j) on same = absurd (cc)
+line_text {P} old ready (Exec s o value) on same =
     subst (λ (x : Bool). IsTextIf x s (log_text (lines_of ready old.sites (Exec s o value)))) (same_access old.objects ready old.sites (Exec s o value) same)
     (text_if (is_access (plain_with ready old.sites) (Exec s o value)) _ s (is_cached ready.heap.view.trail old.sites s o))
-line_text {P} old ready command same = refl
+line_text {P} old ready command on same = refl
 
 -- the sites that tables see
 seen_by : {P : Type 0} (old ready : ObjectsState P) (sites now : List SiteState) (command : Command) → now ≡ sites_by ready sites command → map (λ (x : SiteState). x.site) now ≡ sites_after (map (λ (x : SiteState). x.site) sites) command
 seen_by {P} old ready sites now command is = ap (λ (xs : List SiteState). map (λ (x : SiteState). x.site) xs) is ∙ sites-seen ready sites command
 
--- facts, one thing after another
-facts_on : ConstantsStayOn → (s r : Shapes) (a b c : Trail) → r ≡ s → FactsStay s a b → FactsStay r b c → FactsStay s a c
-facts_on law s r a b c same x y = record {
-  goes = goes-further s x.goes (subst (λ (q : Shapes). GoesOn q b c) same y.goes);
-  constants = law s a b c x.goes (subst (λ (q : Shapes). GoesOn q b c) same y.goes) x.constants y.constants;
-  honest = λ h. y.honest (x.honest h);
-}
+-- A command that isn't one of jobs, where there are jobs beside objects and sites
 
-facts_none : (s : Shapes) (t : Trail) → Lawful s t → FactsStay s t t
-facts_none s t lawful = record { goes = goes-still s lawful; constants = λ o m k f d datum admits const stable. refl; honest = λ h. h }
+beside_act : (plain : PlainState) (jobs : PlainJobs) (command : Command) → is_of_jobs command ≡ false → act_in (record plain { jobs = jobs }) command ≡ act_in plain command
+beside_act plain jobs (Compile s) not = absurd (cc)
+beside_act plain jobs (Step j reads) not = absurd (cc)
+beside_act plain jobs (Finish j) not = absurd (cc)
+beside_act plain jobs command not = refl
+
+pub beside_accepted : (plain : PlainState) (jobs : PlainJobs) (command : Command) → is_of_jobs command ≡ false → is_accepted (record plain { jobs = jobs }) command ≡ is_accepted plain command
+beside_accepted plain jobs (Compile s) not = absurd (cc)
+beside_accepted plain jobs (Step j reads) not = absurd (cc)
+beside_accepted plain jobs (Finish j) not = absurd (cc)
+beside_accepted plain jobs command not = refl
+
+jobs_stay : (plain : PlainState) (command : Command) → is_of_jobs command ≡ false → AreJobsAfter plain command plain.jobs
+jobs_stay plain (Compile s) not = absurd (cc)
+jobs_stay plain (Step j reads) not = absurd (cc)
+jobs_stay plain (Finish j) not = absurd (cc)
+jobs_stay plain command not = record { started = refl; opened = λ j. refl; count = refl }
+
+idle_works : {P : Type 0} (accepted : Bool) (a : ObjectsState P) (sites : List SiteState) (c : Compiling) (command : Command) (b : ObjectsState P) (now : Compiling) (lines : List (ℕ × Line)) → is_of_jobs command ≡ false → now ≡ c → Works accepted a sites c command b now lines
+idle_works {P} true a sites c (Compile s) b now lines not same = absurd (cc)
+idle_works {P} true a sites c (Step j reads) b now lines not same = absurd (cc)
+idle_works {P} true a sites c (Finish j) b now lines not same = absurd (cc)
+idle_works {P} true a sites c command b now lines not same = same
+idle_works {P} false a sites c command b now lines not same = same
 
 -- all that a command does
 module _ {P : Type 0} (went : P → List Access → List Access → P → Type 0) where
-  step_done : (old new : Standing P) (command : Command) (reply : Reply) → IsServed command → Serves went old.objects old.sites old.log command reply new.objects new.sites new.log → new.marks ≡ old.marks ++ mark_of old ∷ [] → Stands new.objects → Does went old command (answer_since old reply new) new
-  step_done old new command reply served serves marks stands =
+  pub beside_done : (old new : Standing P) (command : Command) (reply : Reply) → IsServed command → ServesBeside went old.objects old.sites old.compiler old.log command reply new.objects new.sites new.compiler new.log → new.marks ≡ old.marks ++ mark_of old ∷ [] → Stands new.objects → Does went old command (answer_since old reply new) new
+  beside_done old new command reply served beside marks stands =
+      let serves = beside.serves in
       let ready = serves.used.ready in
-      let same : tables_of ready ≡ tables_of old.objects = readied-tables went (uses_if (is_accepted (plain_of old) command) command) old.objects ready serves.used.readied in
+      let plain = plain_with old.objects old.sites in
+      let act : act_in (plain_of old) command ≡ act_in plain command = beside_act plain (jobs_of old.compiler) command beside.not_of_jobs in
+      let accepted : is_accepted (plain_of old) command ≡ is_accepted plain command = beside_accepted plain (jobs_of old.compiler) command beside.not_of_jobs in
+      let same : tables_of ready ≡ tables_of old.objects = readied-tables went (uses_if (is_accepted plain command) command) old.objects ready serves.used.readied in
       let lines : lines_since old new ≡ lines_of ready old.sites command = ap (λ (xs : List (ℕ × Line)). drop (length old.log) xs) serves.lines_are ∙ drop_at old.log (lines_of ready old.sites command) (length old.log) refl in
       record {
         served = served;
         answers = record {
-          reply_is = serves.reply_is;
-          tables_are = serves.tables_are;
+          reply_is = subst (λ (x : Option Act). IsReplyOf command x reply) (sym act) serves.reply_is;
+          tables_are = subst (λ (x : Option Act). tables_of new.objects ≡ with_world (tables_of old.objects) (after (did_in x) (tables_of old.objects).world)) (sym act) serves.tables_are;
           sites_are = seen_by old.objects ready old.sites new.sites command serves.sites_are;
-          log_is = subst (λ (xs : List (ℕ × Line)). IsLogText (plain_of old) command (log_text xs)) (sym lines) (line_text old ready command same);
+          jobs_are = subst (λ (c : Compiling). AreJobsAfter (plain_of old) command (jobs_of c)) (sym beside.compiler_is) (jobs_stay (plain_of old) command beside.not_of_jobs);
+          log_is = subst (λ (xs : List (ℕ × Line)). IsLogText (plain_of old) command (log_text xs)) (sym lines) (line_text old ready command beside.not_of_jobs same);
         };
         kept = serves.kept;
-        used = serves.used;
+        used = record {
+          ready = ready;
+          readied = subst (λ (x : Bool). AreReadied went old.objects (uses_if x command) ready) (sym accepted) serves.used.readied;
+          done = subst (λ (x : Bool). Became went x ready command (did_in (act_in (plain_of old) command)) new.objects) (sym accepted)
+              (subst (λ (x : Option Act). Became went (is_accepted plain command) ready command (did_in x) new.objects) (sym act) serves.used.done);
+        };
         stands = stands;
         sites = serves.sites_are;
+        jobs = idle_works (is_accepted_job (plain_of old) command) old.objects old.sites old.compiler command new.objects new.compiler (lines_since old new) beside.not_of_jobs beside.compiler_is;
         cheap = serves.cheap;
         logs = record {
           mark = marks;
           log = serves.lines_are ∙ ap (λ (xs : List (ℕ × Line)). old.log ++ xs) (sym lines);
-          legal = subst (AreLegal old ready command) (sym lines) (lines_legal old ready command same);
+          legal = subst (AreLegal old ready command new.objects) (sym lines) (lines_legal old ready new.objects command same);
           one = ap answers_in lines ∙ one_line old ready command same;
         };
         log_is = refl;
       }
-
-  result_does : (old new : Standing P) (command : Command) (r : Result Reply Memory) → IsServed command → IfOk r (λ reply. Serves went old.objects old.sites old.log command reply new.objects new.sites new.log) → new.marks ≡ old.marks ++ mark_of old ∷ [] → Stands new.objects → IfOk r (λ reply. Does went old command (answer_since old reply new) new)
-  result_does old new command (Ok reply) served serves marks stands = step_done old new command reply served serves marks stands
-  result_does old new command (Err fault) served serves marks stands = tt
-
-  -- once it has its mark
-  pub result_done : (old marked new : Standing P) (command : Command) (r : Result Reply Memory) → IsServed command → marked ≡ record old { marks = old.marks ++ mark_of old ∷ []; fresh = false } → IfOk r (λ reply. Serves went marked.objects marked.sites marked.log command reply new.objects new.sites new.log) → new.marks ≡ marked.marks → Stands new.objects → IfOk r (λ reply. Does went old command (answer_since old reply new) new)
-  result_done old marked new command r served same serves marks stands =
-      result_does old new command r served
-      (subst (λ (s : Standing P). IfOk r (λ reply. Serves went s.objects s.sites s.log command reply new.objects new.sites new.log)) same serves)
-      (subst (λ (s : Standing P). new.marks ≡ s.marks) same marks)
-      stands
-
-  -- what a result says of objects
-  pub used_of : (old new : ObjectsState P) (sites sites_now : List SiteState) (log log_now : List (ℕ × Line)) (command : Command) (r : Result Reply Memory) → IfOk r (λ reply. Serves went old sites log command reply new sites_now log_now) → OnOk r (Used went old (is_accepted (plain_with old sites) command) command (did_in (act_in (plain_with old sites) command)) new)
-  used_of old new sites sites_now log log_now command (Ok reply) serves = serves.used
-  used_of old new sites sites_now log log_now command (Err fault) serves = tt
-
-  -- what everything keeps that is done is kept
-  pub result_kept : (K : ObjectsState P → Type 0) → IsKept went K → ((x y : ObjectsState P) → AskedCell went x y → K x → K y) → (old new : ObjectsState P) (sites sites_now : List SiteState) (log log_now : List (ℕ × Line)) (command : Command) (r : Result Reply Memory) → IsStanding old → IsStanding new → IfOk r (λ reply. Serves went old sites log command reply new sites_now log_now)
-      → OnErr r (MovesInWant went old (uses_if (is_accepted (plain_with old sites) command) command) new) → K old → K new
-  result_kept K kept asking old new sites sites_now log log_now command r sound now serves wants k =
-      result-keeps went Reply K kept old new (is_accepted (plain_with old sites) command) command (did_in (act_in (plain_with old sites) command)) r (λ s o value is. asking) sound now (used_of old new sites sites_now log log_now command r serves) wants k
-
-  -- no map becomes unstable that a prototype has
-  pub result_calm : ((a b : ObjectsState P) (did : Did) → IsObjects a.heap.view a.kept a.of_null → IsObjects b.heap.view b.kept b.of_null → Came went a did b → AreCalm a.heap.view.trail → AreCalm b.heap.view.trail) → ((a b : ObjectsState P) → OnlyCells went a b → AreCalm a.heap.view.trail → AreCalm b.heap.view.trail)
-      → (old new : ObjectsState P) (sites sites_now : List SiteState) (log log_now : List (ℕ × Line)) (command : Command) (r : Result Reply Memory) → IsStanding old → IsStanding new → IfOk r (λ reply. Serves went old sites log command reply new sites_now log_now)
-      → OnErr r (MovesInWant went old (uses_if (is_accepted (plain_with old sites) command) command) new) → AreCalm old.heap.view.trail → AreCalm new.heap.view.trail
-  result_calm law cells old new sites sites_now log log_now command r sound now serves wants calm =
-      result_kept (λ (s : ObjectsState P). AreCalm s.heap.view.trail)
-      (λ x y did first second came calm. law x y did first.objects second.objects came calm) (λ x y asked calm. cells x y asked.only calm)
-      old new sites sites_now log log_now command r sound now serves wants calm
-
-  -- what fields say stays true, and constants stay
-  pub result_facts : ConstantsStayOn → ((a b : ObjectsState P) (did : Did) → IsObjects a.heap.view a.kept a.of_null → Came went a did b → FactsStay a.heap.view.shape a.heap.view.trail b.heap.view.trail) → ((a b : ObjectsState P) → OnlyCells went a b → FactsStay a.heap.view.shape a.heap.view.trail b.heap.view.trail)
-      → (old new : ObjectsState P) (sites sites_now : List SiteState) (log log_now : List (ℕ × Line)) (command : Command) (r : Result Reply Memory) → IsStanding old → IsStanding new → IfOk r (λ reply. Serves went old sites log command reply new sites_now log_now)
-      → OnErr r (MovesInWant went old (uses_if (is_accepted (plain_with old sites) command) command) new) → FactsStay old.heap.view.shape old.heap.view.trail new.heap.view.trail
-  result_facts on law cells old new sites sites_now log log_now command r sound now serves wants =
-      (result_kept (λ (s : ObjectsState P). (s.heap.view.shape ≡ old.heap.view.shape) × FactsStay old.heap.view.shape old.heap.view.trail s.heap.view.trail)
-      (λ x y did first second came k. (came-shape went x y did came ∙ k.0, facts_on on old.heap.view.shape x.heap.view.shape old.heap.view.trail x.heap.view.trail y.heap.view.trail k.0 k.1 (law x y did first.objects came)))
-      (λ x y asked k. (asked.only.steps.shape ∙ k.0, facts_on on old.heap.view.shape x.heap.view.shape old.heap.view.trail x.heap.view.trail y.heap.view.trail k.0 k.1 (cells x y asked.only)))
-      old new sites sites_now log log_now command r sound now serves wants (refl, facts_none old.heap.view.shape old.heap.view.trail sound.objects.heap.lawful)).1
 
   pub constants_kept : (old new : ObjectsState P) → new ≡ old → ConstantsStay old.heap.view.trail new.heap.view.trail
   constants_kept old new same = subst (λ (o : ObjectsState P). ConstantsStay old.heap.view.trail o.heap.view.trail) (sym same) (λ o m k f d datum detail constness stable. refl)
@@ -319,20 +306,22 @@ module _ {P : Type 0} (went : P → List Access → List Access → P → Type 0
   nothing_begun old new command same = inl (record {
     objects = ap (λ (s : Standing P). s.objects) same;
     sites = ap (λ (s : Standing P). s.sites) same;
+    compiler = ap (λ (s : Standing P). s.compiler) same;
     log = ap (λ (s : Standing P). s.log) same;
     marks = ap (λ (s : Standing P). s.marks) same;
   })
 
-  pub result_wants : (old new : Standing P) (command : Command) (r : Result Reply Memory) → OnErr r (MovesInWant went old.objects (uses_if (is_accepted (plain_of old) command) command) new.objects) → OnErr r (NotedInWant went old.objects old.sites command new.sites) → OnErr r (new.log ≡ old.log) → new.marks ≡ old.marks ++ mark_of old ∷ [] → OnErr r (Wants went old command new)
-  result_wants old new command (Ok reply) moves sites log marks = tt
-  result_wants old new command (Err fault) moves sites log marks = inr (record { moves = moves; sites = sites; log = log; mark = marks })
+  pub result_wants : (old new : Standing P) (command : Command) (r : Result Reply Memory) → OnErr r (MovesInWant went old.objects (uses_if (is_accepted (plain_of old) command) command) new.objects) → OnErr r (NotedInWant went old.objects old.sites command new.sites) → OnErr r (new.compiler ≡ old.compiler) → OnErr r (new.log ≡ old.log) → new.marks ≡ old.marks ++ mark_of old ∷ [] → OnErr r (Wants went old command new)
+  result_wants old new command (Ok reply) moves sites compiler log marks = tt
+  result_wants old new command (Err fault) moves sites compiler log marks = inr (record { moves = moves; sites = sites; compiler = compiler; log = log; mark = marks })
 
   -- the same once the command has its mark
-  pub result_wanted : (old marked new : Standing P) (command : Command) (r : Result Reply Memory) → marked ≡ record old { marks = old.marks ++ mark_of old ∷ []; fresh = false } → OnErr r (MovesInWant went marked.objects (uses_if (is_accepted (plain_of marked) command) command) new.objects) → OnErr r (NotedInWant went marked.objects marked.sites command new.sites) → OnErr r (new.log ≡ marked.log) → new.marks ≡ marked.marks → OnErr r (Wants went old command new)
-  result_wanted old marked new command r same moves sites log marks =
+  pub result_wanted : (old marked new : Standing P) (command : Command) (r : Result Reply Memory) → marked ≡ record old { marks = old.marks ++ mark_of old ∷ []; fresh = false } → OnErr r (MovesInWant went marked.objects (uses_if (is_accepted (plain_of marked) command) command) new.objects) → OnErr r (NotedInWant went marked.objects marked.sites command new.sites) → OnErr r (new.compiler ≡ marked.compiler) → OnErr r (new.log ≡ marked.log) → new.marks ≡ marked.marks → OnErr r (Wants went old command new)
+  result_wanted old marked new command r same moves sites compiler log marks =
       result_wants old new command r
       (subst (λ (s : Standing P). OnErr r (MovesInWant went s.objects (uses_if (is_accepted (plain_of s) command) command) new.objects)) same moves)
       (subst (λ (s : Standing P). OnErr r (NotedInWant went s.objects s.sites command new.sites)) same sites)
+      (subst (λ (s : Standing P). OnErr r (new.compiler ≡ s.compiler)) same compiler)
       (subst (λ (s : Standing P). OnErr r (new.log ≡ s.log)) same log)
       (marks ∙ ap (λ (s : Standing P). s.marks) same)
 
@@ -349,6 +338,7 @@ module _ {P : Type 0} (old inside : Standing P) (log_now : List (ℕ × Line)) (
   has_none went command unmarked = inl (record {
     objects = ap (λ (s : Standing P). s.objects) view;
     sites = ap (λ (s : Standing P). s.sites) view;
+    compiler = ap (λ (s : Standing P). s.compiler) view;
     log = same ∙ ap (λ (s : Standing P). s.log) view;
     marks = unmarked ∙ ap (λ (s : Standing P). s.marks) view;
   })

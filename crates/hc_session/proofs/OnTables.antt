@@ -8,7 +8,8 @@ use Rattle.hc_script.specs.declared.fault.What.{What}
 use Rattle.hc_script.specs.declared.fault.Status.{Status}
 use Rattle.hc_script.specs.declared.fault.Status.TheVariants.{Done, BadWords, BadScript, ReadFault, WriteFault, Memory}
 use Rattle.hc_session.specs.Plain.{AnswersPlainly, PlainState}
-use Rattle.hc_session.specs.Standing.{Standing, plain_of, tables_of}
+use Rattle.hc_compiler.specs.Jobs.{Compiling}
+use Rattle.hc_session.specs.Standing.{Standing, jobs_of, plain_of, tables_of}
 use Rattle.hc_modes.specs.State.{ObjectsState}
 use Rattle.hc_session.specs.State.{Does, NotedInWant, Wants, any_pace}
 use Rattle.hc_session.specs.Using.{is_accepted, uses_if}
@@ -51,12 +52,13 @@ module _ {P : Type 0} where
   next_on_tables before lines place end more h =
       record { line = h.line; there = h.there; next = line_on_tables place end h.line more h.next }
 
-  -- want of memory leaves the tables and the sites
+  -- want of memory leaves the tables, the sites and the jobs
   want_keeps_tables : (old new : Standing P) (command : Command) → Wants any_pace old command new → plain_of old ≡ plain_of new
-  want_keeps_tables old new command (inl same) = rw (same.objects, same.sites) refl
+  want_keeps_tables old new command (inl same) = rw (same.objects, same.sites, same.compiler) refl
   want_keeps_tables old new command (inr marked) =
-      ap (λ (tables : Tables). record { tables = tables; sites = (plain_of old).sites }) (sym (want-tables any_pace old.objects new.objects (uses_if (is_accepted (plain_of old) command) command) marked.moves))
-      ∙ ap (λ (xs : List Site). record { tables = tables_of new.objects; sites = xs }) (sym (noted old.objects old.sites new.sites command marked.sites))
+      ap (λ (tables : Tables). record { tables = tables; sites = (plain_of old).sites; jobs = jobs_of old.compiler }) (sym (want-tables any_pace old.objects new.objects (uses_if (is_accepted (plain_of old) command) command) marked.moves))
+      ∙ ap (λ (xs : List Site). record { tables = tables_of new.objects; sites = xs; jobs = jobs_of old.compiler }) (sym (noted old.objects old.sites new.sites command marked.sites))
+      ∙ ap (λ (c : Compiling). record { tables = tables_of new.objects; sites = (plain_of new).sites; jobs = jobs_of c }) (sym marked.compiler)
     where
       noted : (objects : ObjectsState P) (sites now : List SiteState) (command : Command) → NotedInWant any_pace objects sites command now → map (λ (x : SiteState). x.site) now ≡ map (λ (x : SiteState). x.site) sites
       noted objects sites now command (inl same) = ap (λ (xs : List SiteState). map (λ (x : SiteState). x.site) xs) same
@@ -129,7 +131,7 @@ module _ {P : Type 0} where
     leaves = leaves_tables before.left old new h.lines h.place h.leaves;
   }
 
-  -- and begins without objects and sites
+  -- and begins without objects, sites and jobs
   pub replies_as_tables : (old new : Standing P) (before after : Outside) (status : Status) → IsNew old → KeepsSession old before new status after → RepliesAsTables old.objects.heap.view.shape.objects before status after
   replies_as_tables old new before after status fresh h = (
     plain_of new,
@@ -138,4 +140,4 @@ module _ {P : Type 0} where
   )
     where
       begins : (session : Standing P) → IsNew session → plain_of session ≡ nothing_made session.objects.heap.view.shape.objects
-      begins session fresh = rw (fresh.objects.world, fresh.sites) refl
+      begins session fresh = rw (fresh.objects.world, fresh.sites, fresh.compiler) refl

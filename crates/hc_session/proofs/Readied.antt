@@ -7,14 +7,15 @@ use Rattle.hc_value.specs.declared.memory.Memory.{Memory}
 use Rattle.hc_value.specs.declared.value.Value.{Value}
 use Rattle.hc_access.specs.Accesses.{AskedCell}
 use Rattle.hc_commands.specs.declared.command.Command.{Command}
-use Rattle.hc_commands.specs.declared.command.Command.TheVariants.{Shape, Same, Exec}
+use Rattle.hc_commands.specs.declared.command.Command.TheVariants.{Shape, Same, Exec, Step, Finish}
 use Rattle.hc_modes.specs.State.{ObjectsState}
 use Rattle.hc_objects.specs.Came.{Came, MadeLive, Moves, world_of}
 use Rattle.hc_objects.specs.Laws.{came-shape, came-stands, came-world, live-moves}
 use Rattle.hc_table.specs.Changes.{Did, Nothing, Moved, after}
 use Rattle.hc_table.specs.Kept.{with_world}
 use Rattle.hc_table.specs.World.{World}
-use Rattle.hc_session.specs.Plain.{is_of_sites}
+use Rattle.hc_session.specs.Jobs.{HaveMet}
+use Rattle.hc_session.specs.Plain.{is_beside}
 use Rattle.hc_session.specs.Standing.{tables_of}
 use Rattle.hc_session.specs.State.{Became, Used}
 use Rattle.hc_objects.specs.State.{IsStanding}
@@ -78,11 +79,15 @@ module _ {P : Type 0} (went : P → List Access → List Access → P → Type 0
 
   -- What became of objects
 
-  -- is what was done, or a cell was asked for
-  pub became-by : (C : Type 0) (accepted : Bool) (a b : ObjectsState P) (command : Command) (did : Did) → ((d : Did) → Came went a d b → C) → ((s o : ℕ) (value : Option Value) → command ≡ Exec s o value → accepted ≡ true → AskedCell went a b → C) → Became went accepted a command did b → C
-  became-by C accepted a b (Exec s o value) did first second (inl came) = first did came
-  became-by C accepted a b (Exec s o value) did first second (inr asked) = second s o value refl asked.0 asked.2
-  became-by C accepted a b command did first second came = first did came
+  -- is what was done, or a cell was asked for, or readers were met
+  pub became-by : (C : Type 0) (accepted : Bool) (a b : ObjectsState P) (command : Command) (did : Did) → ((d : Did) → Came went a d b → C) → ((s o : ℕ) (value : Option Value) → command ≡ Exec s o value → accepted ≡ true → AskedCell went a b → C) → (HaveMet a b → C) → Became went accepted a command did b → C
+  became-by C accepted a b (Exec s o value) did first second third (inl came) = first did came
+  became-by C accepted a b (Exec s o value) did first second third (inr asked) = second s o value refl asked.0 asked.2
+  became-by C accepted a b (Step j reads) did first second third (inl came) = first did came
+  became-by C accepted a b (Step j reads) did first second third (inr met) = third met.1
+  became-by C accepted a b (Finish j) did first second third (inl came) = first did came
+  became-by C accepted a b (Finish j) did first second third (inr met) = third met.1
+  became-by C accepted a b command did first second third came = first did came
 
   -- what everything keeps that is done
   abbrev pub IsKept : (ObjectsState P → Type 0) → Type 0
@@ -92,12 +97,17 @@ module _ {P : Type 0} (went : P → List Access → List Access → P → Type 0
   abbrev pub IsKeptAsking : (ObjectsState P → Type 0) → Command → Type 0
   IsKeptAsking K command = (s o : ℕ) (value : Option Value) → command ≡ Exec s o value → (x y : ObjectsState P) → AskedCell went x y → K x → K y
 
-  pub used-keeps : (K : ObjectsState P → Type 0) → IsKept K → (a b : ObjectsState P) (accepted : Bool) (command : Command) (did : Did) → IsKeptAsking K command → IsStanding a → IsStanding b → Used went a accepted command did b → K a → K b
-  used-keeps K kept a b accepted command did asking sound now used k =
+  -- and what readers keep that are met
+  abbrev pub IsKeptMeeting : (ObjectsState P → Type 0) → Type 0
+  IsKeptMeeting K = (x y : ObjectsState P) → HaveMet x y → K x → K y
+
+  pub used-keeps : (K : ObjectsState P → Type 0) → IsKept K → IsKeptMeeting K → (a b : ObjectsState P) (accepted : Bool) (command : Command) (did : Did) → IsKeptAsking K command → IsStanding a → IsStanding b → Used went a accepted command did b → K a → K b
+  used-keeps K kept meeting a b accepted command did asking sound now used k =
       let ready = readied-keeps K (λ x y first second moves. kept x y Moved first second moves) (uses_if accepted command) a used.ready sound used.readied k in
       became-by (K b) accepted used.ready b command did
       (λ d came. kept used.ready b d ready.0 now came ready.1)
-      (λ s o value is yes_it_is asked. asking s o value is used.ready b asked ready.1) used.done
+      (λ s o value is yes_it_is asked. asking s o value is used.ready b asked ready.1)
+      (λ met. meeting used.ready b met ready.1) used.done
 
   pub want-keeps : (K : ObjectsState P → Type 0) → IsKept K → (a b : ObjectsState P) (uses : List ℕ) → IsStanding a → IsStanding b → MovesInWant went a uses b → K a → K b
   want-keeps K kept a b uses sound now want k =
@@ -105,14 +115,14 @@ module _ {P : Type 0} (went : P → List Access → List Access → P → Type 0
       kept want.ready b Moved ready.0 now want.moves ready.1
 
   -- what a result says
-  pub result-keeps : (R : Type 0) (K : ObjectsState P → Type 0) → IsKept K → (a b : ObjectsState P) (accepted : Bool) (command : Command) (did : Did) (r : Result R Memory) → IsKeptAsking K command → IsStanding a → IsStanding b → OnOk r (Used went a accepted command did b) → OnErr r (MovesInWant went a (uses_if accepted command) b) → K a → K b
-  result-keeps R K kept a b accepted command did (Ok reply) asking sound now used want k = used-keeps K kept a b accepted command did asking sound now used k
-  result-keeps R K kept a b accepted command did (Err fault) asking sound now used want k = want-keeps K kept a b (uses_if accepted command) sound now want k
+  pub result-keeps : (R : Type 0) (K : ObjectsState P → Type 0) → IsKept K → IsKeptMeeting K → (a b : ObjectsState P) (accepted : Bool) (command : Command) (did : Did) (r : Result R Memory) → IsKeptAsking K command → IsStanding a → IsStanding b → OnOk r (Used went a accepted command did b) → OnErr r (MovesInWant went a (uses_if accepted command) b) → K a → K b
+  result-keeps R K kept meeting a b accepted command did (Ok reply) asking sound now used want k = used-keeps K kept meeting a b accepted command did asking sound now used k
+  result-keeps R K kept meeting a b accepted command did (Err fault) asking sound now used want k = want-keeps K kept a b (uses_if accepted command) sound now want k
 
   -- a command on objects asks for no cell
-  pub not-asking : (K : ObjectsState P → Type 0) (command : Command) → is_of_sites command ≡ false → IsKeptAsking K command
+  pub not-asking : (K : ObjectsState P → Type 0) (command : Command) → is_beside command ≡ false → IsKeptAsking K command
   not-asking K command on s o value is x y asked k =
-      let f : ⊥ = cc (ap (λ (c : Command). is_of_sites c) is, on) in absurd f
+      let f : ⊥ = cc (ap (λ (c : Command). is_beside c) is, on) in absurd f
 
   -- one object was migrated, or moved at most
   pub ready-good : {R : Type 0} (a b : ObjectsState P) (o : ℕ) (C : Type 0) (r : Result R Memory) → (Came went a Moved b → C) → OnOk r (AreReadied went a (o ∷ []) b) → OnErr r (Moves went a b) → C

@@ -1,18 +1,37 @@
--- The sites that a command leaves which was answered.
-use Rattle.std.proofs.Common.{◌≡◌, ℕ, zero, suc, ◌+◌, ◌≤◌, List, [], ◌∷◌, ◌++◌, length, map, sym, subst}
+-- The sites and jobs that a command leaves which was answered.
+use Rattle.std.proofs.Common.{◌≡◌, ℕ, zero, suc, ◌+◌, ◌≤◌, Bool, true, false, List, [], ◌∷◌, ◌++◌, length, map, sym, ap, subst, arith}
 use Rattle.hc_plan.specs.declared.case.Site.{Site}
 use Rattle.hc_sites.specs.State.{new_site}
 use Rattle.hc_access.specs.Entries.{AreGood}
 use Rattle.hc_board.specs.Trail.{Access}
 use Rattle.hc_commands.specs.Numbers.{IsCommandBelow}
 use Rattle.hc_commands.specs.declared.command.Command.{Command}
+use Rattle.hc_commands.specs.declared.command.Command.TheVariants.{Compile, Step, Finish}
+use Rattle.hc_compiler.specs.Jobs.{Compiling}
 use Rattle.hc_modes.specs.State.{ObjectsState}
 use Rattle.hc_sites.specs.declared.state.SiteState.{SiteState}
-use Rattle.hc_session.specs.Plain.{Answer}
+use Rattle.hc_report.specs.declared.line.Line.{Line}
+use Rattle.hc_session.specs.Jobs.{Works}
+use Rattle.hc_session.specs.Logging.{lines_since}
+use Rattle.hc_session.specs.Plain.{Answer, is_accepted_job}
 use Rattle.hc_session.specs.Serving.{AreNamedSites}
 use Rattle.hc_session.specs.Standing.{Standing, plain_of}
 use Rattle.hc_session.specs.State.{Does}
 use Rattle.hc_session.proofs.Declares.{one_more, sites-named}
+
+one_started : {P : Type 0} (accepted : Bool) (a : ObjectsState P) (sites : List SiteState) (c : Compiling) (command : Command) (b : ObjectsState P) (now : Compiling) (lines : List (ℕ × Line)) → Works accepted a sites c command b now lines → now.started ≤ c.started + 1
+one_started {P} true a sites c (Compile s) b now lines works = omega (arith, works.0.started)
+one_started {P} true a sites c (Step j reads) b now lines works = omega (arith, works.0.started)
+one_started {P} true a sites c (Finish j) b now lines works = omega (arith, works.1.started)
+one_started {P} true a sites c command b now lines works = omega (arith, ap (λ (x : Compiling). x.started) works)
+one_started {P} false a sites c command b now lines works = omega (arith, ap (λ (x : Compiling). x.started) works)
+
+same_lent : {P : Type 0} (accepted : Bool) (a : ObjectsState P) (sites : List SiteState) (c : Compiling) (command : Command) (b : ObjectsState P) (now : Compiling) (lines : List (ℕ × Line)) → Works accepted a sites c command b now lines → now.lent ≡ c.lent
+same_lent {P} true a sites c (Compile s) b now lines works = works.0.lent
+same_lent {P} true a sites c (Step j reads) b now lines works = works.0.lent
+same_lent {P} true a sites c (Finish j) b now lines works = works.1.lent
+same_lent {P} true a sites c command b now lines works = ap (λ (x : Compiling). x.lent) works
+same_lent {P} false a sites c command b now lines works = ap (λ (x : Compiling). x.lent) works
 
 module _ {P : Type 0} (went : P → List Access → List Access → P → Type 0) (old : Standing P) (command : Command) (answer : Answer) (new : Standing P) (does : Does went old command answer new) where
   -- at most one more
@@ -22,6 +41,14 @@ module _ {P : Type 0} (went : P → List Access → List Access → P → Type 0
   -- their names are such as before
   pub names_keep : (count : ℕ) → IsCommandBelow count command → AreNamedSites count (plain_of old).sites → AreNamedSites count (plain_of new).sites
   names_keep count below named = subst (λ (xs : List SiteState). AreNamedSites count (map (λ (x : SiteState). x.site) xs)) (sym does.sites) (sites-named count does.used.ready old.sites command below named)
+
+  -- at most one job more was started
+  pub no_two_started : new.compiler.started ≤ old.compiler.started + 1
+  no_two_started = one_started (is_accepted_job (plain_of old) command) old.objects old.sites old.compiler command new.objects new.compiler (lines_since old new) does.jobs
+
+  -- callers have the jobs that they had
+  pub lent_stay : new.compiler.lent ≡ old.compiler.lent
+  lent_stay = same_lent (is_accepted_job (plain_of old) command) old.objects old.sites old.compiler command new.objects new.compiler (lines_since old new) does.jobs
 
 -- Where there is no site
 

@@ -16,8 +16,11 @@ use Rattle.hc_tree.specs.Needs.{HasSpace}
 use Rattle.hc_slots.specs.Meaning.{Dictionary}
 use Rattle.hc_modes.specs.Meaning.{cause_in}
 use Rattle.hc_modes.specs.Spent.{IsNearlyFull, IsSpent, greatest_need}
+use Rattle.hc_modes.specs.Readers.{with_entries}
 use Rattle.hc_modes.specs.State.{ObjectsState, IsObjects}
+use Rattle.hc_board.specs.Parts.{MetEntry}
 use Rattle.hc_report.specs.declared.line.Line.{Line}
+use Rattle.hc_session.specs.Jobs.{HaveMet}
 use Rattle.hc_session.specs.Keeping.{IsLeft, IsLeftInWant, IsUsed, but_cells}
 use Rattle.hc_session.specs.Logging.{answers_in, is_answer, lines_since}
 use Rattle.hc_session.specs.Output.{Place, Turns, Answers}
@@ -123,6 +126,10 @@ asked-but {P} law n a b few asked =
       cells = few;
     }
 
+-- readers that are met hand out nothing
+met-spent : {P : Type 0} (a : ObjectsState P) (entries : List MetEntry) → IsSpent 4 a a → IsSpent 4 a (with_entries a entries)
+met-spent {P} a entries h = record { within = h.within; shape = h.shape; space = h.space }
+
 -- how many lines say how a site answered
 answers-both : (xs ys : List (ℕ × Line)) → answers_in (xs ++ ys) ≡ answers_in xs + answers_in ys
 answers-both [] ys = omega arith
@@ -168,6 +175,12 @@ module _ {P : Type 0} (law : SpendLittle P) (few : FewCells P) where
       let both = spent-on (length uses) 4 0 1 a ready b (same-but (length uses) a ready (readied-spent uses a ready sound readied)) (asked-but law 4 ready b (few ready b asked) asked) in
       record { spent = law.more (length uses + 4) 8 a (but_cells a b) (omega (arith, le)) both.spent; cells = omega (arith, both.cells) }
 
+  -- then readers that are met
+  then-met : (uses : List ℕ) (a ready b : ObjectsState P) → length uses ≤ 3 → IsStanding a → AreReadied any_pace a uses ready → HaveMet ready b → IsSpent 8 a b
+  then-met uses a ready b le sound readied met =
+      law.more (length uses + 4) 8 a b (omega (arith, le))
+      (law.onward (length uses) 4 a ready b (readied-spent uses a ready sound readied) (subst (λ (s : ObjectsState P). IsSpent 4 ready s) (sym met.1) (met-spent ready met.0 (law.none 4 ready))))
+
   -- a command that is answered
   with-lines : (a b : ObjectsState P) (m n : ℕ) → m ≤ n → AreSpent 8 m a b → AreSpent 8 n a b
   with-lines a b m n le h = record { spent = h.spent; cells = omega (arith, le, h.cells) }
@@ -190,6 +203,8 @@ module _ {P : Type 0} (law : SpendLittle P) (few : FewCells P) where
       (same-but 8 old.objects new.objects (then-spent uses old.objects ready new.objects did (few-used accepted command) sound does.used.readied came)))
       (λ s o value is yes_it_is asked. with-lines old.objects new.objects 1 (answers_in (lines_since old new)) (asked-once old new command s o value is yes_it_is does.logs.one)
       (then-asked uses old.objects ready new.objects (few-used accepted command) sound does.used.readied asked))
+      (λ met. with-lines old.objects new.objects 0 (answers_in (lines_since old new)) (omega arith)
+      (same-but 8 old.objects new.objects (then-met uses old.objects ready new.objects (few-used accepted command) sound does.used.readied met)))
       does.used.done
 
   -- a line asks for one command at most, and leaves objects that stand

@@ -18,7 +18,7 @@ use Rattle.hc_value.specs.declared.memory.Memory.{Memory}
 use Rattle.hc_value.specs.declared.reply.Reply.{Reply}
 use Rattle.hc_value.specs.declared.reply.Reply.TheVariants.{Flag, NoObject}
 use Rattle.hc_commands.specs.declared.command.Command.{Command}
-use Rattle.hc_commands.specs.declared.command.Command.TheVariants.{Get, Set, Define, Has, Own, Delete, Keys, Proto, SetProto, Extensible, Lock, Seal, Freeze, Shape, Same, Exec}
+use Rattle.hc_commands.specs.declared.command.Command.TheVariants.{Get, Set, Define, Has, Own, Delete, Keys, Proto, SetProto, Extensible, Lock, Seal, Freeze, Shape, Same, Exec, Step, Finish}
 use Rattle.hc_session.specs.Standing.{tables_of}
 use Rattle.hc_session.specs.State.{Became, Used, did_in_want}
 use Rattle.hc_session.specs.Tables.{AnswersOnTables, IsOnTables, IsReplyOf, act_of, act_there, all_among, all_there, did_by, did_in, is_among, proto_among, says}
@@ -194,6 +194,8 @@ module _ {P : Type 0} (went : P → List Access → List Access → P → Type 0
 
   became-plain : (accepted : Bool) (command : Command) (did : Did) (a b : ObjectsState P) → IsOnTables command → Came went a did b → Became went accepted a command did b
   became-plain accepted (Exec s o value) did a b on came = absurd (cc)
+  became-plain accepted (Step j reads) did a b on came = absurd (cc)
+  became-plain accepted (Finish j) did a b on came = absurd (cc)
   became-plain accepted command did a b on came = came
 
   module _ (a ready b : ObjectsState P) (command : Command) (there : all_there (tables_of a) command ≡ true) (same : tables_of ready ≡ tables_of a) where

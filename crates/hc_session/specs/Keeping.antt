@@ -1,4 +1,4 @@
--- How a replay keeps the objects behind the property tables, the sites and the log.
+-- How a replay keeps the objects behind the property tables, the sites, the jobs and the log.
 use Rattle.std.specs.Prelude.{◌≡◌, ℕ, ◌+◌, ◌*◌, ◌≤◌, length}
 use Rattle.hc_modes.specs.Spent.{IsSpent}
 use Rattle.hc_modes.specs.State.{ObjectsState}
@@ -34,7 +34,7 @@ pub record IsLeftInWant {P : Type 0} (old new : Standing P) (place : Place (Stan
   pub wants : Wants any_pace place.state command new
   pub spent : IsUsed (place.begun + 1) old new
 
--- a replay leaves this session: hidden classes, dictionaries, and why; the sites; the log and its marks
+-- a replay leaves this session: hidden classes, dictionaries, and why; the sites; the jobs; the log and its marks
 abbrev pub KeepsSession : {P : Type 0} → Standing P → Outside → Standing P → Status → Outside → Type 0
 KeepsSession old before new status after =
     EndsRun (the_first_place old) before status after (Does any_pace) (IsLeft old new) (IsLeftInWant old new)

@@ -2,6 +2,7 @@ pub mod Tables
 pub mod Plain
 pub mod Standing
 pub mod Using
+pub mod Jobs
 pub mod Logging
 pub mod State
 pub mod Serving

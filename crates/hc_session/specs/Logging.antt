@@ -4,9 +4,12 @@ use Rattle.std.specs.List.{AllByRecursion}
 use Rattle.hc_board.specs.States.{counted}
 use Rattle.hc_value.specs.declared.value.Value.{Value}
 use Rattle.hc_access.specs.Entries.{is_cached}
+use Rattle.hc_compiler.specs.Ends.{HasEnded}
 use Rattle.hc_modes.specs.State.{ObjectsState}
+use Rattle.hc_plan.specs.declared.skip.Why.{Why}
+use Rattle.hc_question.specs.declared.outcome.Outcome.TheVariants.{NoPlan as EndsWithoutPlan}
 use Rattle.hc_commands.specs.declared.command.Command.{Command}
-use Rattle.hc_commands.specs.declared.command.Command.TheVariants.{Exec}
+use Rattle.hc_commands.specs.declared.command.Command.TheVariants.{Exec, Finish}
 use Rattle.hc_report.specs.Lines.{log_line}
 use Rattle.hc_report.specs.declared.line.Line.{Line}
 use Rattle.hc_report.specs.declared.line.Line.TheVariants.{Hit, Cache, Slow, Install, Refuse, NoPlan, Discard}
@@ -15,13 +18,16 @@ use Rattle.hc_session.specs.Plain.{is_access}
 use Rattle.hc_session.specs.Standing.{Standing, plain_of}
 
 -- the mark of a command that begins here: how many stores, met entries, lines and slots there are
-abbrev pub mark_of : {P : Type 0} → Standing P → Mark
-mark_of session = record {
-  at = counted (length session.objects.heap.desk.trail);
-  met = counted (length session.objects.heap.desk.met);
-  lines = length session.log;
-  slots = session.objects.heap.view.used.slots;
+abbrev pub mark_at : {P : Type 0} → ObjectsState P → List (ℕ × Line) → Mark
+mark_at objects log = record {
+  at = counted (length objects.heap.desk.trail);
+  met = counted (length objects.heap.desk.met);
+  lines = length log;
+  slots = objects.heap.view.used.slots;
 }
+
+abbrev pub mark_of : {P : Type 0} → Standing P → Mark
+mark_of session = mark_at session.objects session.log
 
 -- Legal lines
 
@@ -36,16 +42,26 @@ abbrev pub IsWayOf : {P : Type 0} → Standing P → ObjectsState P → Command 
 IsWayOf old ready (Exec s o value) site at cached = (s ≡ site) × IsWay old ready site o at value cached
 IsWayOf old ready command site at cached = ⊥
 
+-- a command ended a job that was open, and there is no plan for this reason: so the entry of its reader says that was met last. No
+-- store came before or after it
+pub record IsEnd {P : Type 0} (old : Standing P) (job at : ℕ) (why : Why) (now : ObjectsState P) : Type 0 where
+  pub ended : HasEnded old.compiler.jobs job (EndsWithoutPlan why) now
+  pub position : at ≡ counted (length now.heap.desk.trail)
+
+abbrev pub IsEndOf : {P : Type 0} → Standing P → Command → ℕ → ℕ → Why → ObjectsState P → Type 0
+IsEndOf old (Finish j) job at why now = (j ≡ job) × IsEnd old job at why now
+IsEndOf old command job at why now = ⊥
+
 -- a line that a command may put into the log, with how many stores there were before it: an access says whether the inline cache
--- answered or full lookup. No other command puts one
-abbrev pub IsLegalLine : {P : Type 0} → Standing P → ObjectsState P → Command → ℕ → Line → Type 0
-IsLegalLine old ready command at (Hit site case) = ⊥
-IsLegalLine old ready command at (Cache site) = IsWayOf old ready command site at true
-IsLegalLine old ready command at (Slow site) = IsWayOf old ready command site at false
-IsLegalLine old ready command at (Install job site) = ⊥
-IsLegalLine old ready command at (Refuse job dep) = ⊥
-IsLegalLine old ready command at (NoPlan job why) = ⊥
-IsLegalLine old ready command at (Discard site dep) = ⊥
+-- answered or full lookup, and the end of a job why it has no plan. No other command puts one
+abbrev pub IsLegalLine : {P : Type 0} → Standing P → ObjectsState P → Command → ObjectsState P → ℕ → Line → Type 0
+IsLegalLine old ready command now at (Hit site case) = ⊥
+IsLegalLine old ready command now at (Cache site) = IsWayOf old ready command site at true
+IsLegalLine old ready command now at (Slow site) = IsWayOf old ready command site at false
+IsLegalLine old ready command now at (Install job site) = ⊥
+IsLegalLine old ready command now at (Refuse job dep) = ⊥
+IsLegalLine old ready command now at (NoPlan job why) = IsEndOf old command job at why now
+IsLegalLine old ready command now at (Discard site dep) = ⊥
 
 -- a line that says how a site answered
 abbrev pub is_answer : Line → Bool
@@ -68,7 +84,7 @@ lines_since old new = drop (length old.log) new.log
 pub record Logs {P : Type 0} (old : Standing P) (ready : ObjectsState P) (command : Command) (new : Standing P) : Type 0 where
   pub mark : new.marks ≡ old.marks ++ mark_of old ∷ []
   pub log : new.log ≡ old.log ++ lines_since old new
-  pub legal : AllByRecursion (λ (entry : ℕ × Line). IsLegalLine old ready command entry.0 entry.1) (lines_since old new)
+  pub legal : AllByRecursion (λ (entry : ℕ × Line). IsLegalLine old ready command new.objects entry.0 entry.1) (lines_since old new)
   pub one : answers_in (lines_since old new) ≡ (if is_access (plain_of old) command then 1 else 0)
 
 -- the text of lines of the log

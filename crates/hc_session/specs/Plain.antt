@@ -1,28 +1,39 @@
--- What commands do to property tables and declared sites.
-use Rattle.std.specs.Prelude.{◌≡◌, ◌⊎◌, ℕ, ◌<◌, ◌-◌, ◌^◌, Bool, true, false, ◌&&◌, if◌then◌else◌, List, [], ◌∷◌, ◌++◌, length, slice_get, Option, Some, None}
+-- What commands do to property tables, declared sites and jobs.
+use Rattle.std.specs.Prelude.{◌≡◌, ◌⊎◌, ℕ, ◌+◌, ◌<◌, ◌-◌, ◌^◌, ◌==◌, nat_lt, Bool, true, false, not, ◌&&◌, ◌||◌, if◌then◌else◌, is_some, List, [], ◌∷◌, ◌++◌, length, slice_get, Option, Some, None}
 use Rattle.hc_value.specs.declared.reply.Reply.{Reply}
-use Rattle.hc_value.specs.declared.reply.Reply.TheVariants.{Site as SiteReply, NoObject, NoSite, WrongSite}
+use Rattle.hc_value.specs.declared.reply.Reply.TheVariants.{Site as SiteReply, Job as JobReply, Fine, Finished, NoObject, NoSite, NoJob, WrongSite, NoRoom}
 use Rattle.hc_value.specs.declared.value.Value.{Value}
 use Rattle.hc_plan.specs.declared.case.Op.{Op}
 use Rattle.hc_plan.specs.declared.case.Op.TheVariants.{Load, Store}
 use Rattle.hc_plan.specs.declared.case.Site.{Site}
+use Rattle.hc_plan.specs.declared.skip.Why.{Why}
 use Rattle.hc_table.specs.Changes.{after}
 use Rattle.hc_table.specs.Kept.{Kept as Tables, with_world}
 use Rattle.hc_ops.specs.Act.{Act}
 use Rattle.hc_ops.specs.Get.{get_reply}
 use Rattle.hc_ops.specs.Set.{set_act}
-use Rattle.hc_commands.specs.Verbs.{is_built, verb_of_command}
+use Rattle.hc_commands.specs.Verbs.{is_built}
 use Rattle.hc_commands.specs.declared.command.Command.{Command}
-use Rattle.hc_commands.specs.declared.command.Command.TheVariants.{Declare, Exec}
+use Rattle.hc_commands.specs.declared.command.Command.TheVariants.{Declare, Exec, Compile, Step, Finish}
 use Rattle.hc_report.specs.Lines.{log_line}
 use Rattle.hc_report.specs.Text.{reply_line}
-use Rattle.hc_report.specs.declared.line.Line.TheVariants.{Cache, Slow}
+use Rattle.hc_report.specs.declared.line.Line.TheVariants.{Cache, Slow, NoPlan}
 use Rattle.hc_session.specs.Tables.{IsReplyOf, act_of, did_in, is_among, names_among, says}
 
--- the objects with their limit, and the sites in the order in which they were declared
+-- how many jobs were started, and the numbers of those that are open, in any order
+pub record PlainJobs : Type 0 where
+  pub started : ℕ
+  pub opened : List ℕ
+
+-- no job was started
+abbrev pub none_started : PlainJobs
+none_started = record { started = 0; opened = [] }
+
+-- the objects with their limit, the sites in the order in which they were declared, and the jobs
 pub record PlainState : Type 0 where
   pub tables : Tables
   pub sites : List Site
+  pub jobs : PlainJobs
 
 -- what a command is answered by: the text that it puts into the log, and its reply
 pub record Answer : Type 0 where
@@ -33,15 +44,22 @@ pub record Answer : Type 0 where
 abbrev pub answer_text : List (List ℕ) → Answer → List ℕ
 answer_text names answer = answer.log ++ reply_line names answer.reply
 
--- the commands that only sites tell of
-abbrev pub is_of_sites : Command → Bool
-is_of_sites (Declare op name) = true
-is_of_sites (Exec s o value) = true
-is_of_sites command = false
+-- the commands of jobs
+abbrev pub is_of_jobs : Command → Bool
+is_of_jobs (Compile s) = true
+is_of_jobs (Step j reads) = true
+is_of_jobs (Finish j) = true
+is_of_jobs command = false
+
+-- the commands that only sites and jobs tell of
+abbrev pub is_beside : Command → Bool
+is_beside (Declare op name) = true
+is_beside (Exec s o value) = true
+is_beside command = is_of_jobs command
 
 -- the commands that a session serves: those that are built
 abbrev pub is_served : Command → Bool
-is_served command = is_built (verb_of_command command)
+is_served command = is_built command
 
 abbrev pub IsServed : Command → Type 0
 IsServed command = is_served command ≡ true
@@ -76,12 +94,74 @@ abbrev pub is_access : PlainState → Command → Bool
 is_access plain (Exec s o value) = is_accepted_at plain.tables (slice_get plain.sites s) o value
 is_access plain command = false
 
+-- Jobs
+
+-- the job of a number is among those that are open
+abbrev pub is_opened : List ℕ → ℕ → Bool
+is_opened [] j = false
+is_opened (k ∷ ks) j = (k == j) || is_opened ks j
+
+-- fewer than 64 jobs are open
+abbrev pub has_room : PlainJobs → Bool
+has_room jobs = nat_lt (length jobs.opened) 64
+
+-- a command of jobs is accepted
+abbrev pub is_accepted_job : PlainState → Command → Bool
+is_accepted_job plain (Compile s) = is_some (slice_get plain.sites s) && has_room plain.jobs
+is_accepted_job plain (Step j reads) = is_opened plain.jobs.opened j
+is_accepted_job plain (Finish j) = is_opened plain.jobs.opened j
+is_accepted_job plain command = false
+
+-- a job gets the next number, where its site is there and there is room
+abbrev pub compile_reply : PlainState → ℕ → Reply
+compile_reply plain s = if is_some (slice_get plain.sites s) then (if has_room plain.jobs then JobReply plain.jobs.started else NoRoom) else NoSite
+
+-- the reply of a command on a job
+abbrev pub job_reply : PlainJobs → ℕ → Reply → Reply
+job_reply jobs j reply = if is_opened jobs.opened j then reply else NoJob
+
+-- the jobs as they were
+pub record AreSameJobs (old now : PlainJobs) : Type 0 where
+  pub started : now.started ≡ old.started
+  pub opened : (j : ℕ) → is_opened now.opened j ≡ is_opened old.opened j
+  pub count : length now.opened ≡ length old.opened
+
+-- one job more was started, and is open, with the next number
+pub record IsOneStarted (old now : PlainJobs) : Type 0 where
+  pub started : now.started ≡ old.started + 1
+  pub opened : (j : ℕ) → is_opened now.opened j ≡ ((old.started == j) || is_opened old.opened j)
+  pub count : length now.opened ≡ length old.opened + 1
+
+-- the job of a number is open no more
+pub record IsOneFinished (k : ℕ) (old now : PlainJobs) : Type 0 where
+  pub started : now.started ≡ old.started
+  pub opened : (j : ℕ) → is_opened now.opened j ≡ (not (k == j) && is_opened old.opened j)
+  pub count : length now.opened + 1 ≡ length old.opened
+
+-- the jobs after a command
+abbrev pub AreJobsIf : Bool → Command → PlainJobs → PlainJobs → Type 0
+AreJobsIf true (Compile s) old now = IsOneStarted old now
+AreJobsIf true (Finish j) old now = IsOneFinished j old now
+AreJobsIf accepted command old now = AreSameJobs old now
+
+abbrev pub AreJobsAfter : PlainState → Command → PlainJobs → Type 0
+AreJobsAfter plain command now = AreJobsIf (is_accepted_job plain command) command plain.jobs now
+
+-- fewer jobs were started than have numbers, where the command starts one
+abbrev pub HasJobNumber : ℕ → Command → Type 0
+HasJobNumber started (Compile s) = started < 2 ^ 32 - 1
+HasJobNumber started command = Unit {0}
+
 -- Commands
 
--- what a command comes to: a site gets the next number, and answers as its operation does; all else tables tell
+-- what a command comes to: a site gets the next number, and answers as its operation does; a job gets the next number, makes its
+-- reads, and ends; all else tables tell
 abbrev pub act_in : PlainState → Command → Option Act
 act_in plain (Declare op name) = Some (says (SiteReply (length plain.sites)))
 act_in plain (Exec s o value) = Some (exec_act plain.tables (slice_get plain.sites s) o value)
+act_in plain (Compile s) = Some (says (compile_reply plain s))
+act_in plain (Step j reads) = Some (says (job_reply plain.jobs j Fine))
+act_in plain (Finish j) = Some (says (job_reply plain.jobs j Finished))
 act_in plain command = act_of plain.tables command
 
 -- the sites after it
@@ -102,14 +182,25 @@ abbrev pub IsTextIf : Bool → ℕ → List ℕ → Type 0
 IsTextIf true s log = IsAccessText s log
 IsTextIf false s log = log ≡ []
 
--- what a command puts into the log: an access that is accepted one line, and nothing else anything
+-- the text of a job's end: one line where it has no plan, which says why, and no line where it has one
+abbrev pub IsEndText : ℕ → List ℕ → Type 0
+IsEndText j log = (log ≡ []) ⊎ ((why : Why) × (log ≡ log_line (NoPlan j why)))
+
+abbrev pub IsEndTextIf : Bool → ℕ → List ℕ → Type 0
+IsEndTextIf true j log = IsEndText j log
+IsEndTextIf false j log = log ≡ []
+
+-- what a command puts into the log: an access that is accepted one line, the end of a job that is open one at most, and nothing
+-- else anything
 abbrev pub IsLogText : PlainState → Command → List ℕ → Type 0
 IsLogText plain (Exec s o value) log = IsTextIf (is_access plain (Exec s o value)) s log
+IsLogText plain (Finish j) log = IsEndTextIf (is_accepted_job plain (Finish j)) j log
 IsLogText plain command log = log ≡ []
 
--- a command may be answered so by property tables with sites, and leave these
+-- a command may be answered so by property tables with sites and jobs, and leave these
 pub record AnswersPlainly (old : PlainState) (command : Command) (answer : Answer) (new : PlainState) : Type 0 where
   pub reply_is : IsReplyOf command (act_in old command) answer.reply
   pub tables_are : new.tables ≡ with_world old.tables (after (did_in (act_in old command)) old.tables.world)
   pub sites_are : new.sites ≡ sites_after old.sites command
+  pub jobs_are : AreJobsAfter old command new.jobs
   pub log_is : IsLogText old command answer.log

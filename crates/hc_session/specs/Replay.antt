@@ -8,7 +8,7 @@ use Rattle.hc_script.specs.declared.fault.What.{What}
 use Rattle.hc_script.specs.declared.fault.Status.{Status}
 use Rattle.hc_script.specs.declared.fault.Status.TheVariants.{Done, BadWords, BadScript, ReadFault, WriteFault, Memory}
 use Rattle.hc_session.specs.Fault.{refusal_line, read_line, usage_line}
-use Rattle.hc_session.specs.Plain.{Answer, AnswersPlainly, PlainState}
+use Rattle.hc_session.specs.Plain.{Answer, AnswersPlainly, PlainState, none_started}
 use Rattle.hc_session.specs.Output.{Outside, Place, AnswersAll, AnswersUntilRefused, AnswersUntilFault, AnswersSome, AnswersNext, AppendsPartly, AppendsFront}
 
 -- the words of the program that ask for a replay
@@ -97,11 +97,11 @@ EndsRun start before WriteFault after does ends stays =
     ⊎ (FailsInRefusal start before after does ends ⊎ FailsInReadLine start before after does ends)
 EndsRun start before Memory after does ends stays = EndsInWant start before after does ends stays
 
--- no objects, and as many as may be made; and no sites
+-- no objects, and as many as may be made; and neither sites nor jobs
 abbrev pub nothing_made : ℕ → PlainState
-nothing_made limit = record { tables = record { world = []; limit = limit }; sites = [] }
+nothing_made limit = record { tables = record { world = []; limit = limit }; sites = []; jobs = none_started }
 
--- a replay over property tables that begins without objects and sites, and leaves some tables
+-- a replay over property tables that begins without objects, sites and jobs, and leaves some tables
 abbrev pub RepliesAsTables : ℕ → Outside → Status → Outside → Type 0
 RepliesAsTables limit before status after =
     (left : PlainState) × EndsRun (the_first_place (nothing_made limit)) before status after AnswersPlainly (λ end. end.state ≡ left) (λ place. place.state ≡ left)

@@ -1,9 +1,13 @@
--- What serving a command does, to objects, sites and the log.
-use Rattle.std.specs.Prelude.{◌≡◌, ◌<◌, ℕ, Bool, true, false, if◌then◌else◌, List, [], ◌∷◌, ◌++◌, length, slice_get, Some}
+-- What serving a command does, to objects, sites, jobs and the log.
+use Rattle.std.specs.Prelude.{◌≡◌, ◌⊎◌, ◌<◌, ℕ, Bool, true, false, if◌then◌else◌, List, [], ◌∷◌, ◌++◌, length, slice_get, Some}
 use Rattle.hc_board.specs.States.{counted}
 use Rattle.hc_board.specs.Trail.{Access}
 use Rattle.hc_value.specs.declared.reply.Reply.{Reply}
 use Rattle.hc_access.specs.Entries.{is_cached}
+use Rattle.hc_compiler.specs.Jobs.{Compiling}
+use Rattle.hc_heap.specs.States.{Goes}
+use Rattle.hc_modes.specs.Admitting.{FactsStay}
+use Rattle.hc_modes.specs.Rest.{AreCalm}
 use Rattle.hc_modes.specs.State.{ObjectsState}
 use Rattle.hc_plan.specs.declared.case.Site.{Site}
 use Rattle.hc_sites.specs.declared.state.SiteState.{SiteState}
@@ -13,10 +17,11 @@ use Rattle.hc_commands.specs.declared.command.Command.{Command}
 use Rattle.hc_commands.specs.declared.command.Command.TheVariants.{Exec}
 use Rattle.hc_report.specs.declared.line.Line.{Line}
 use Rattle.hc_report.specs.declared.line.Line.TheVariants.{Cache, Slow}
-use Rattle.hc_session.specs.Plain.{act_in, is_access}
-use Rattle.hc_session.specs.Standing.{plain_with, tables_of}
+use Rattle.hc_session.specs.Jobs.{Works}
+use Rattle.hc_session.specs.Plain.{act_in, is_accepted_job, is_access, is_of_jobs}
+use Rattle.hc_session.specs.Standing.{plain_among, plain_with, tables_of}
 use Rattle.hc_session.specs.State.{IsCheap, IsTrueReply, Used, sites_by}
-use Rattle.hc_session.specs.Tables.{IsReplyOf, did_in}
+use Rattle.hc_session.specs.Tables.{IsReplyOf, did_in, says}
 use Rattle.hc_session.specs.Using.{is_accepted}
 
 -- each site's name is one of so many
@@ -37,7 +42,7 @@ lines_of objects sites (Exec s o value) =
     else []
 lines_of objects sites command = []
 
--- a command that is answered: its reply is the one that tables with sites give, true of how objects are kept; the objects that it uses
+-- a command that isn't one of jobs, and is answered: its reply is the one that tables with sites give, true of how objects are kept; the objects that it uses
 -- are migrated, and then change so; the sites and the lines of the log are these; and the inline cache's answers are cheap
 pub record Serves {P : Type 0} (went : P → List Access → List Access → P → Type 0) (objects : ObjectsState P) (sites : List SiteState) (log : List (ℕ × Line)) (command : Command) (reply : Reply) (objects_now : ObjectsState P) (sites_now : List SiteState) (log_now : List (ℕ × Line)) : Type 0 where
   pub reply_is : IsReplyOf command (act_in (plain_with objects sites) command) reply
@@ -47,3 +52,34 @@ pub record Serves {P : Type 0} (went : P → List Access → List Access → P �
   pub sites_are : sites_now ≡ sites_by used.ready sites command
   pub lines_are : log_now ≡ log ++ lines_of used.ready sites command
   pub cheap : IsCheap objects used.ready sites command objects_now
+
+-- a command of jobs that is answered: its reply is the one that the jobs give which are open; it does what it does where it is
+-- accepted, and else nothing
+pub record ServesJobs {P : Type 0} (objects : ObjectsState P) (sites : List SiteState) (compiler : Compiling) (log : List (ℕ × Line)) (command : Command) (reply : Reply) (objects_now : ObjectsState P) (sites_now : List SiteState) (compiler_now : Compiling) (log_now : List (ℕ × Line)) : Type 0 where
+  pub of_jobs : is_of_jobs command ≡ true
+  pub reply_is : act_in (plain_among objects sites compiler) command ≡ Some (says reply)
+  pub lines : List (ℕ × Line)
+  pub lines_are : log_now ≡ log ++ lines
+  pub works : Works (is_accepted_job (plain_among objects sites compiler) command) objects sites compiler command objects_now compiler_now lines
+  pub refused : is_accepted_job (plain_among objects sites compiler) command ≡ false → (objects_now ≡ objects) × (lines ≡ [])
+  pub sites_are : sites_now ≡ sites
+
+-- any other command, which does nothing to jobs
+pub record ServesBeside {P : Type 0} (goes_with : P → List Access → List Access → P → Type 0) (objects : ObjectsState P) (sites : List SiteState) (compiler : Compiling) (log : List (ℕ × Line)) (command : Command) (reply : Reply) (objects_now : ObjectsState P) (sites_now : List SiteState) (compiler_now : Compiling) (log_now : List (ℕ × Line)) : Type 0 where
+  pub not_of_jobs : is_of_jobs command ≡ false
+  pub serves : Serves goes_with objects sites log command reply objects_now sites_now log_now
+  pub compiler_is : compiler_now ≡ compiler
+
+-- a command of either kind
+abbrev pub Attends : {P : Type 0} → (P → List Access → List Access → P → Type 0) → ObjectsState P → List SiteState → Compiling → List (ℕ × Line) → Command → Reply → ObjectsState P → List SiteState → Compiling → List (ℕ × Line) → Type 0
+Attends went objects sites compiler log command reply objects_now sites_now compiler_now log_now =
+    ServesBeside went objects sites compiler log command reply objects_now sites_now compiler_now log_now
+    ⊎ ServesJobs objects sites compiler log command reply objects_now sites_now compiler_now log_now
+
+-- what objects keep, whatever commands do: the shape stays, the writer goes on, what fields say stays true, and no map becomes unstable
+-- that a prototype has
+pub record KeepsOn {P : Type 0} (a b : ObjectsState P) : Type 0 where
+  pub shape : b.heap.view.shape ≡ a.heap.view.shape
+  pub goes : Goes a.heap.desk b.heap.desk
+  pub facts : FactsStay a.heap.view.shape a.heap.view.trail b.heap.view.trail
+  pub calm : AreCalm a.heap.view.trail → AreCalm b.heap.view.trail

@@ -13,14 +13,15 @@ use Rattle.hc_modes.specs.Rest.{AreCalm}
 use Rattle.hc_modes.specs.State.{ObjectsState, IsObjects}
 use Rattle.hc_objects.specs.Came.{Came}
 use Rattle.hc_commands.specs.declared.command.Command.{Command}
-use Rattle.hc_commands.specs.declared.command.Command.TheVariants.{Keys, Shape, Same, Declare, Exec}
+use Rattle.hc_commands.specs.declared.command.Command.TheVariants.{Keys, Shape, Same, Declare, Exec, Step, Finish}
 use Rattle.hc_plan.specs.declared.case.Site.{Site}
 use Rattle.hc_access.specs.Accesses.{AskedCell, events_at, note_events, site_at, with_events}
 use Rattle.hc_access.specs.Entries.{is_cached}
 use Rattle.hc_sites.specs.State.{new_site}
 use Rattle.hc_sites.specs.declared.state.SiteState.{SiteState}
+use Rattle.hc_session.specs.Jobs.{HaveMet, Works}
 use Rattle.hc_session.specs.Logging.{Logs, lines_since, log_text, mark_of}
-use Rattle.hc_session.specs.Plain.{Answer, AnswersPlainly, IsServed, act_in, is_access}
+use Rattle.hc_session.specs.Plain.{Answer, AnswersPlainly, IsServed, act_in, is_accepted_job, is_access}
 use Rattle.hc_session.specs.Standing.{Standing, plain_of, plain_with}
 use Rattle.hc_session.specs.Tables.{did_in}
 use Rattle.hc_session.specs.Using.{AreReadied, MovesInWant, is_accepted, uses_if}
@@ -65,9 +66,11 @@ sites_in_want objects sites (Exec s o value) =
 sites_in_want objects sites command = sites
 
 -- what became of objects, once those that a command uses were migrated: the one change that is made, if any; or an access that is
--- accepted and makes none asked for a cell, as no other command does
+-- accepted and makes none asked for a cell, as no other command does; or a command on an open job had its reader met
 abbrev pub Became : {P : Type 0} → (P → List Access → List Access → P → Type 0) → Bool → ObjectsState P → Command → Did → ObjectsState P → Type 0
 Became went accepted a (Exec s o value) did b = Came went a did b ⊎ ((accepted ≡ true) × (did ≡ Nothing) × AskedCell went a b)
+Became went accepted a (Step j reads) did b = Came went a did b ⊎ ((accepted ≡ true) × HaveMet a b)
+Became went accepted a (Finish j) did b = Came went a did b ⊎ ((accepted ≡ true) × HaveMet a b)
 Became went accepted a command did b = Came went a did b
 
 -- the objects that a command uses were migrated first, none where it is refused; and then it did what it does
@@ -84,8 +87,8 @@ IsCheap old ready sites (Exec s o None) new =
 IsCheap old ready sites command new = Unit {0}
 
 -- what a command that is answered does: it answers as the tables do, and truly of how objects are kept; the objects that it uses were
--- migrated, and then what became of words, modes, needs and prototypes is what becomes of the one change; the sites are these; the
--- log goes on; and the inline cache's answers are cheap
+-- migrated, and then what became of words, modes, needs and prototypes is what becomes of the one change; the sites are these;
+-- jobs are started, make their reads and end so; the log goes on; and the inline cache's answers are cheap
 pub record Does {P : Type 0} (went : P → List Access → List Access → P → Type 0) (old : Standing P) (command : Command) (answer : Answer) (new : Standing P) : Type 0 where
   pub served : IsServed command
   pub answers : AnswersPlainly (plain_of old) command answer (plain_of new)
@@ -93,6 +96,7 @@ pub record Does {P : Type 0} (went : P → List Access → List Access → P →
   pub used : Used went old.objects (is_accepted (plain_of old) command) command (did_in (act_in (plain_of old) command)) new.objects
   pub stands : Stands new.objects
   pub sites : new.sites ≡ sites_by used.ready old.sites command
+  pub jobs : Works (is_accepted_job (plain_of old) command) old.objects old.sites old.compiler command new.objects new.compiler (lines_since old new)
   pub cheap : IsCheap old.objects used.ready old.sites command new.objects
   pub logs : Logs old used.ready command new
   pub log_is : answer.log ≡ log_text (lines_since old new)
@@ -116,6 +120,7 @@ NotedInWant {P} went a sites command now =
 pub record IsAsBefore {P : Type 0} (old new : Standing P) : Type 0 where
   pub objects : new.objects ≡ old.objects
   pub sites : new.sites ≡ old.sites
+  pub compiler : new.compiler ≡ old.compiler
   pub log : new.log ≡ old.log
   pub marks : new.marks ≡ old.marks
 
@@ -124,6 +129,7 @@ pub record IsAsBefore {P : Type 0} (old new : Standing P) : Type 0 where
 pub record HasMark {P : Type 0} (went : P → List Access → List Access → P → Type 0) (old : Standing P) (command : Command) (new : Standing P) : Type 0 where
   pub moves : MovesInWant went old.objects (uses_if (is_accepted (plain_of old) command) command) new.objects
   pub sites : NotedInWant went old.objects old.sites command new.sites
+  pub compiler : new.compiler ≡ old.compiler
   pub log : new.log ≡ old.log
   pub mark : new.marks ≡ old.marks ++ mark_of old ∷ []
 

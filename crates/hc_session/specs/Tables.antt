@@ -18,9 +18,9 @@ use Rattle.hc_ops.specs.Integrity.{set_proto_act, lock_act, seal_act, freeze_act
 use Rattle.hc_ops.specs.Keys.{keys_reply}
 use Rattle.hc_ops.specs.Set.{set_act}
 use Rattle.hc_commands.specs.Numbers.{IsCommandBelow}
-use Rattle.hc_commands.specs.Verbs.{is_built, verb_of_command}
+use Rattle.hc_commands.specs.Verbs.{is_built}
 use Rattle.hc_commands.specs.declared.command.Command.{Command}
-use Rattle.hc_commands.specs.declared.command.Command.TheVariants.{New, Get, Set, Define, Has, Own, Delete, Keys, Proto, SetProto, Extensible, Lock, Seal, Freeze, Shape, Same, Declare, Exec}
+use Rattle.hc_commands.specs.declared.command.Command.TheVariants.{New, Get, Set, Define, Has, Own, Delete, Keys, Proto, SetProto, Extensible, Lock, Seal, Freeze, Shape, Same, Declare, Exec, Compile, Step, Finish}
 
 -- Which objects are there
 
@@ -133,13 +133,16 @@ pub record AnswersOnTables (old : Tables) (command : Command) (reply : Reply) (n
   pub reply_is : IsReplyOf command (act_of old command) reply
   pub tables_are : new ≡ with_world old (after (did_by old command) old.world)
 
--- the commands that tables tell all of: those that are built, but for those that ask how objects are kept, and of sites
+-- the commands that tables tell all of: those that are built, but for those that ask how objects are kept, and of sites and jobs
 abbrev pub is_on_tables : Command → Bool
 is_on_tables (Shape o) = false
 is_on_tables (Same a b) = false
 is_on_tables (Declare op name) = false
 is_on_tables (Exec s o value) = false
-is_on_tables command = is_built (verb_of_command command)
+is_on_tables (Compile s) = false
+is_on_tables (Step j reads) = false
+is_on_tables (Finish j) = false
+is_on_tables command = is_built command
 
 abbrev pub IsOnTables : Command → Type 0
 IsOnTables command = is_on_tables command ≡ true

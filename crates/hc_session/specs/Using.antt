@@ -4,8 +4,8 @@ use Rattle.hc_board.specs.Trail.{Access}
 use Rattle.hc_modes.specs.State.{ObjectsState}
 use Rattle.hc_objects.specs.Came.{MadeLive, Moves}
 use Rattle.hc_commands.specs.declared.command.Command.{Command}
-use Rattle.hc_commands.specs.declared.command.Command.TheVariants.{Get, Set, Define, Has, Own, Delete, Keys, Proto, SetProto, Extensible, Lock, Seal, Freeze, Shape, Same, Exec}
-use Rattle.hc_session.specs.Plain.{PlainState, is_access}
+use Rattle.hc_commands.specs.declared.command.Command.TheVariants.{Get, Set, Define, Has, Own, Delete, Keys, Proto, SetProto, Extensible, Lock, Seal, Freeze, Shape, Same, Exec, Compile, Step, Finish}
+use Rattle.hc_session.specs.Plain.{PlainState, is_accepted_job, is_access}
 use Rattle.hc_session.specs.Tables.{all_there}
 
 -- Which objects a command uses
@@ -44,9 +44,13 @@ uses_of (Shape o) = o ∷ []
 uses_of (Same a b) = a ∷ b ∷ a ∷ []
 uses_of command = named_if (object_of command) ++ named_if (proto_of command)
 
--- a command is accepted: an access as its site tells, and each other one where each object that it names is there
+-- a command is accepted: an access as its site tells, a command of jobs as these do, and each other one where each object that it
+-- names is there
 abbrev pub is_accepted : PlainState → Command → Bool
 is_accepted plain (Exec s o value) = is_access plain (Exec s o value)
+is_accepted plain (Compile s) = is_accepted_job plain (Compile s)
+is_accepted plain (Step j reads) = is_accepted_job plain (Step j reads)
+is_accepted plain (Finish j) = is_accepted_job plain (Finish j)
 is_accepted plain command = all_there plain.tables command
 
 -- one that is refused uses none

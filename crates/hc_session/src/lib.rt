@@ -3,6 +3,7 @@
 
 mod answer;
 mod exec;
+mod jobs;
 mod pace;
 mod perform;
 mod refusal;

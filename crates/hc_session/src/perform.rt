@@ -5,7 +5,7 @@ ghost use Rattle.hc_value.specs.declared.word.TheConstants.{NUMBER_LIMIT};
 ghost use Rattle.hc_commands.specs.declared.command.Command.TheVariants.{New, Shape as ShapeCommand, Same as SameCommand};
 ghost use Rattle.hc_objects.specs.Came.{Moves, world_of};
 ghost use Rattle.hc_table.specs.Changes.{Moved, IsThere};
-ghost use Rattle.hc_session.specs.Plain.{IsServed, is_of_sites};
+ghost use Rattle.hc_session.specs.Plain.{IsServed, is_beside};
 ghost use Rattle.hc_session.specs.Standing.{tables_of};
 ghost use Rattle.hc_session.specs.State.{IsTrueReply, Used, did_in_want};
 ghost use Rattle.hc_session.specs.Tables.{AnswersOnTables, HasNumbers, IsOnTables, IsReplyOf, act_there, all_there, did_by, did_in, new_act, tables_in};
@@ -31,7 +31,7 @@ pub fn perform<P: Pace>(
     alloc: Global,
 ) -> Result<Reply, Memory>
     requires served { IsServed command.now }
-    requires objects { is_of_sites command.now ≡ false }
+    requires objects { is_beside command.now ≡ false }
     requires numbers { HasNumbers command.now }
     requires few { objects.old.heap.view.shape.objects ≤ NUMBER_LIMIT }
     ensures answers { IfOk result (λ reply. AnswersOnTables (tables_of objects.old) command.now reply (tables_of objects.new)) }

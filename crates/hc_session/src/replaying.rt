@@ -28,13 +28,13 @@ pub fn replay<S: Source, K: Sink>(
 
     // It begins where nothing was done.
     ensures start { IsNew session.old }
-    // The replies are those of plain property tables and declared sites, line by line, each behind the lines that the log gets;
+    // The replies are those of plain property tables, declared sites and jobs, line by line, each behind the lines that the log gets;
     // the line of a fault comes last.
     ensures replies { AskForReplay (map string_bytes words.now) → RepliesAsTables session.old.objects.heap.view.shape.objects
         (seen S.left S.faults K.taken K.faults source.old sink.old) result
         (seen S.left S.faults K.taken K.faults source.new sink.new) }
-    // How the session behind them is kept: hidden classes and dictionaries, why, and what they hand out; the sites; the log, whose
-    // lines are those that were written, and one mark for each command.
+    // How the session behind them is kept: hidden classes and dictionaries, why, and what they hand out; the sites; the jobs; the
+    // log, whose lines are those that were written, and one mark for each command.
     ensures kept { AskForReplay (map string_bytes words.now) → KeepsSession
         session.old (seen S.left S.faults K.taken K.faults source.old sink.old)
         session.new result (seen S.left S.faults K.taken K.faults source.new sink.new) }

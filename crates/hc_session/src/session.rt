@@ -2,18 +2,19 @@ ghost use Rattle.std.specs.Prelude.{◌≡◌, ◌<◌, [], ◌∷◌, ◌++◌,
 ghost use Rattle.hc_layout.specs.Shape.{IsShape};
 ghost use Rattle.hc_modes.specs.Admitting.{ConstantsStay};
 ghost use Rattle.hc_session.specs.Fresh.{IsNew};
-ghost use Rattle.hc_session.specs.Logging.{mark_of};
-ghost use Rattle.hc_session.specs.Plain.{HasSiteNumber, IsServed};
+ghost use Rattle.hc_session.specs.Jobs.{IsNotLent};
+ghost use Rattle.hc_session.specs.Logging.{mark_at};
+ghost use Rattle.hc_session.specs.Plain.{HasJobNumber, HasSiteNumber, IsServed};
 ghost use Rattle.hc_session.specs.State.{Does, Stands, Wants, answer_since};
 ghost use Rattle.hc_session.specs.Tables.{HasNumbers};
 
 use crate::Scripted;
-use crate::serve::serve;
+use crate::serve::attend;
 use hc_access::entries_stay_good;
-use hc_facts::constants_stay_on;
+use hc_compiler::Compiler;
 use hc_heap::Pace;
 use hc_layout::{Region, Shape};
-use hc_objects::{Objects, cells_stand_alone, fields_stay_honest, prototypes_stay_calm};
+use hc_objects::{Objects, fields_stay_honest};
 use hc_report::{Log, Mark, Marks};
 use hc_script::Command;
 use hc_sites::Sites;
@@ -21,13 +22,15 @@ use hc_value::{Memory, Reply};
 use std::alloc::Global;
 use std::marker::Model;
 
-/// The objects, the sites, the log and all else that commands change, under a pace.
+/// The objects, the sites, the jobs, the log and all else that commands change, under a pace.
 #[derive(Drop)]
 pub struct Session<P: Pace> {
     objects: Objects<P>,
     sites: Sites,
+    compiler: Compiler,
     log: Log,
     marks: Marks,
+    shape: Shape,
     fresh: bool,
     alloc: Global,
 }
@@ -39,9 +42,9 @@ impl<P: Pace> Model for Session<P> {
 
     ghost use Rattle.hc_session.specs.Fresh.{IsSession};
 
-    ghost view = { λ s. record { objects = s.objects; sites = s.sites; log = s.log.lines; marks = s.marks; fresh = s.fresh } };
+    ghost view = { λ s. record { objects = s.objects; sites = s.sites; compiler = s.compiler; log = s.log.lines; marks = s.marks; fresh = s.fresh } };
 
-    ghost invariant = { λ s. IsSession (record { objects = s.objects; sites = s.sites; log = s.log.lines; marks = s.marks; fresh = s.fresh }) };
+    ghost invariant = { λ s. IsSession s.shape (record { objects = s.objects; sites = s.sites; compiler = s.compiler; log = s.log.lines; marks = s.marks; fresh = s.fresh }) };
 }
 
 impl Session<Scripted> {
@@ -57,8 +60,10 @@ impl Session<Scripted> {
         Ok(Session {
             objects: Objects::new(alloc, shape, Scripted)?,
             sites: Sites::new(alloc),
+            compiler: Compiler::new(alloc)?,
             log: Log::new(alloc),
             marks: Marks::new(alloc),
+            shape,
             fresh: true,
             alloc,
         })
@@ -80,23 +85,23 @@ impl<P: Pace> Session<P> {
         requires served { IsServed command.now }
         requires numbers { HasNumbers command.now }
         requires room { HasSiteNumber (length self.old.sites) command.now }
+        requires jobs { HasJobNumber self.old.compiler.started command.now }
+        requires own { IsNotLent self.old.compiler.lent command.now }
         ensures done { IfOk result (λ reply. Does P.went self.old command.now (answer_since self.old reply self.new) self.new) }
         ensures wants { OnErr result (Wants P.went self.old command.now self.new) }
         ensures stands { Stands self.new.objects }
         ensures constants { ConstantsStay self.old.objects.heap.view.trail self.new.objects.heap.view.trail }
         ensures fresh { self.new.fresh ≡ false }
     {
-        prototypes_stay_calm::<P>();
-        fields_stay_honest::<P>();
-        cells_stand_alone::<P>();
-        constants_stay_on();
         self.objects.stands();
         self.fresh = false;
         put_mark(&self.objects, &self.sites, &mut self.log, &mut self.marks)?;
-        let reply = serve(
+        let reply = attend(
             &mut self.objects,
             &mut self.sites,
+            &mut self.compiler,
             &mut self.log,
+            self.shape,
             command,
             self.alloc,
         );
@@ -109,6 +114,13 @@ impl<P: Pace> Session<P> {
         ensures { result ≡ length self.now.sites }
     {
         self.sites.len()
+    }
+
+    /// How many jobs were started.
+    pub fn started(&self) -> u32
+        ensures { result ≡ self.now.compiler.started }
+    {
+        self.compiler.started()
     }
 
     /// The lines so far, each with how many stores there were before it.
@@ -147,8 +159,7 @@ fn put_mark<P: Pace>(
     log: &mut Log,
     marks: &mut Marks,
 ) -> Result<(), Memory>
-    ensures ok { OnOk result (marks.new ≡ marks.old
-        ++ mark_of (record { objects = objects.now; sites = sites.now; log = log.old.lines; marks = marks.old; fresh = false }) ∷ []) }
+    ensures ok { OnOk result (marks.new ≡ marks.old ++ mark_at objects.now log.old.lines ∷ []) }
     ensures room { OnOk result (0 < log.new.room) }
     ensures err { OnErr result (marks.new ≡ marks.old) }
     ensures lines { log.new.lines ≡ log.old.lines }

@@ -4,9 +4,9 @@ use Rattle.hc_report.specs.declared.line.Line.{Line}
 use Rattle.hc_session.specs.Logging.{log_text}
 use Rattle.hc_session.specs.Plain.{answer_text}
 use Rattle.hc_session.specs.State.{answer_since}
-use Rattle.hc_session.proofs.Declares.{number_left}
+use Rattle.hc_session.proofs.Declares.{job_number_left, none_lent, number_left}
 use Rattle.hc_session.proofs.NamedWorlds.{numbers_held, replies_show, tables_keep}
-use Rattle.hc_session.proofs.Sited.{names_keep, no_two_more}
+use Rattle.hc_session.proofs.Sited.{lent_stay, names_keep, no_two_more, no_two_started}
 use Rattle.hc_session.proofs.answer.answer.Goals as goal
 
 pub command-requires-clause-numbers : goal.command-requires-clause-numbers
@@ -14,6 +14,12 @@ command-requires-clause-numbers g c = numbers_held _ _ c.requires.names c.requir
 
 pub command-requires-clause-room : goal.command-requires-clause-room
 command-requires-clause-room g c = number_left _ _ c.requires.sites
+
+pub command-requires-clause-jobs : goal.command-requires-clause-jobs
+command-requires-clause-jobs g c = job_number_left _ _ c.requires.jobs
+
+pub command-requires-clause-own : goal.command-requires-clause-own
+command-requires-clause-own g c = none_lent _ _ c.requires.own
 
 pub render_answer-requires : goal.render_answer-requires
 render_answer-requires g c = record { named = replies_show _ _ _ _ _ c.in-Ok.ensures.done.answers c.requires.world c.requires.named c.requires.command }
@@ -26,6 +32,12 @@ returns-in-Ok-write_piece-clause-named g c = names_keep _ _ _ _ _ c.in-Ok.ensure
 
 pub returns-in-Ok-write_piece-clause-sites : goal.returns-in-Ok-write_piece-clause-sites
 returns-in-Ok-write_piece-clause-sites g c = no_two_more _ _ _ _ _ c.in-Ok.ensures.done
+
+pub returns-in-Ok-write_piece-clause-jobs : goal.returns-in-Ok-write_piece-clause-jobs
+returns-in-Ok-write_piece-clause-jobs g c = no_two_started _ _ _ _ _ c.in-Ok.ensures.done
+
+pub returns-in-Ok-write_piece-clause-own : goal.returns-in-Ok-write_piece-clause-own
+returns-in-Ok-write_piece-clause-own g c = lent_stay _ _ _ _ _ c.in-Ok.ensures.done ∙ c.requires.own
 
 -- what holds where a result is Ok
 where_ok : {A B : Type 0} (r : Result A B) (P : Type 0) → is_ok r ≡ true → OnOk r P → P

@@ -6,6 +6,8 @@ use Rattle.hc_objects.specs.Came.{world_of}
 use Rattle.hc_commands.specs.declared.command.Command.TheVariants.{Exec}
 use Rattle.hc_session.specs.Serving.{Serves, way_line}
 use Rattle.hc_session.proofs.Accessed.{among-is, among-not, load-given, load-missing, load-wants, loaded, value-none}
+use Rattle.hc_plan.specs.declared.case.Op.TheVariants.{Load}
+use Rattle.hc_session.proofs.Seen.{access-seen, asked-seen}
 use Rattle.hc_session.proofs.exec.exec_load.Goals as goal
 
 pub returns-then-is_some-clause-serves : goal.returns-then-is_some-clause-serves
@@ -35,3 +37,8 @@ returns-clause-serves g c =
     subst (λ (v : Option Value). Serves g.P.Pace.went c.args.objects.now c.args.sites.now c.args.log.now.lines (Exec c.args.s c.args.o v) c.load-done.result.reply c.load-done.new.objects c.load-done.new.sites c.put_line.new.log.lines) (sym none)
     (loaded g.P.Pace.went c.args.objects.now c.ready_receiver.new.objects c.load-done.new.objects c.args.sites.now c.load-done.new.sites c.args.log.now.lines c.put_line.new.log.lines c.args.s c.args.o c.args.name c.load-done.result.reply c.requires.site (among-is (length (world_of c.args.objects.now)) c.args.o there)
     c.ready_receiver.ensures.tables c.in_ok-ready_receiver.ensures.readied c.load-done.ensures.reply c.load-done.ensures.sites lines c.load-done.ensures.asked c.in_ok-ready_receiver.ensures.loads (λ cached. c.load-done.ensures.loads (c.load-done.ensures.by ∙ cached)))
+
+pub returns-clause-seen : goal.returns-clause-seen
+returns-clause-seen g c =
+    asked-seen g.P.Pace.went c.written_is_kept.ensures.law c.cells_stand_alone.ensures.facts c.ready_receiver.new.objects c.load-done.new.objects c.load-done.new.sites c.load-done.ensures.asked
+    (access-seen c.ready_receiver.new.objects c.ready_receiver.ensures.written c.args.sites.now c.args.s c.args.o Load c.args.name c.load-done.new.sites c.ready_receiver.ensures.seen c.load-done.ensures.sites)

@@ -7,6 +7,8 @@ use Rattle.hc_session.specs.Serving.{way_line}
 use Rattle.hc_table.specs.Kept.{Kept as Tables}
 use Rattle.hc_session.proofs.Uses.{moves-first, moves-last}
 use Rattle.hc_session.proofs.Accessed.{came-limit, on-err, store-given, store-noted, store-past, store-served, store-unnamed, store-wants}
+use Rattle.hc_plan.specs.declared.case.Op.TheVariants.{Store}
+use Rattle.hc_session.proofs.Seen.{access-seen, note-seen, seen-on}
 use Rattle.hc_session.proofs.exec.exec_store.Goals.{then-o-count-via-then-o-count, then-o-count-via-else-o-count+then-not-is_value_there}
 use Rattle.hc_session.proofs.exec.exec_store.Goals as goal
 
@@ -50,3 +52,15 @@ returns-clause-serves g c =
 pub returns-clause-limit : goal.returns-clause-limit
 returns-clause-limit g c =
     came-limit g.P.Pace.went c.ready_receiver.new.objects c.store.new.objects (set_act (world_of c.ready_receiver.new.objects) c.args.o c.args.name c.in-Some.given).did c.in_ok-done.ensures.came ∙ ap (λ (t : Tables). t.limit) c.ready_receiver.ensures.tables
+
+pub returns-in_err-done-clause-seen : goal.returns-in_err-done-clause-seen
+returns-in_err-done-clause-seen g c =
+    seen-on c.ready_receiver.new.objects.heap.view.shape c.ready_receiver.new.objects.heap.view.trail c.store.new.objects.heap.view.trail c.store.new.sites c.written_is_kept.ensures.law
+    (c.fields_stay_honest.ensures.law c.ready_receiver.new.objects c.store.new.objects Moved c.ready_receiver.ensures.sound c.in_err-done.ensures.moved).goes
+    (note-seen c.ready_receiver.new.objects c.ready_receiver.ensures.written c.args.sites.now c.args.s c.args.o c.store.new.sites c.ready_receiver.ensures.seen c.in_err-done.ensures.noted)
+
+pub returns-clause-seen : goal.returns-clause-seen
+returns-clause-seen g c =
+    seen-on c.ready_receiver.new.objects.heap.view.shape c.ready_receiver.new.objects.heap.view.trail c.store.new.objects.heap.view.trail c.store.new.sites c.written_is_kept.ensures.law
+    (c.fields_stay_honest.ensures.law c.ready_receiver.new.objects c.store.new.objects (set_act (world_of c.ready_receiver.new.objects) c.args.o c.args.name c.in-Some.given).did c.ready_receiver.ensures.sound c.in_ok-done.ensures.came).goes
+    (access-seen c.ready_receiver.new.objects c.ready_receiver.ensures.written c.args.sites.now c.args.s c.args.o Store c.args.name c.store.new.sites c.ready_receiver.ensures.seen c.in_ok-done.ensures.sites)

@@ -1,4 +1,5 @@
 use Rattle.std.proofs.Common.{List, length, refl, ap, arith}
+use Rattle.hc_compiler.specs.Jobs.{Compiling}
 use Rattle.hc_sites.specs.declared.state.SiteState.{SiteState}
 use Rattle.hc_script.specs.Reader.{Reader}
 use Rattle.hc_session.specs.Replay.{the_first_place}
@@ -27,6 +28,12 @@ answer-requires-clause-named g c =
 pub answer-requires-clause-sites : goal.answer-requires-clause-sites
 answer-requires-clause-sites g c = omega (arith, c.commands.invariant.sites, c.commands.invariant.within)
 
+pub answer-requires-clause-jobs : goal.answer-requires-clause-jobs
+answer-requires-clause-jobs g c = omega (arith, c.commands.invariant.jobs, c.commands.invariant.within)
+
+pub answer-requires-clause-own : goal.answer-requires-clause-own
+answer-requires-clause-own g c = c.commands.invariant.own
+
 pub commands-smaller : goal.commands-smaller
 commands-smaller g c =
     let took = rw c.in-Ok-Some.field-0-is at (c.in-Ok-Some.ensures.serves c.commands.invariant.going) in
@@ -43,6 +50,8 @@ commands-preserved g c =
       named = rw c.names.ensures.names at c.in-Ok.ensures.world;
       sited = rw c.names.ensures.names at c.in-Ok.ensures.named;
       sites = omega (arith, c.commands.invariant.sites, c.in-Ok.ensures.sites, command_moves _ _ _ _ _ took);
+      jobs = omega (arith, c.commands.invariant.jobs, c.in-Ok.ensures.jobs, command_moves _ _ _ _ _ took);
+      own = c.in-Ok.ensures.own;
       reads = omega (arith, c.commands.invariant.reads, c.in-Ok-Some.ensures.grows);
       writes = omega (arith, c.commands.invariant.writes, c.in-Ok.ensures.grows);
     }
@@ -83,6 +92,8 @@ commands-init g c = record {
   named = rw c.requires.untouched.objects.world (λ o. tt);
   sited = rw c.requires.untouched.sites (λ n site is. let f : ⊥ = cc in absurd f);
   sites = omega (arith, ap (λ (xs : List SiteState). length xs) c.requires.untouched.sites);
+  jobs = omega (arith, ap (λ (x : Compiling). x.started) c.requires.untouched.compiler);
+  own = ap (λ (x : Compiling). x.lent) c.requires.untouched.compiler;
   reads = omega arith;
   writes = omega arith;
 }

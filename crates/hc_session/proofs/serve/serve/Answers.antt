@@ -29,7 +29,7 @@ returns-in-Exec-clause-noted g c =
     subst (λ (x : Command). OnErr c.exec.result (NotedInWant g.P.Pace.went c.args.objects.now c.args.sites.now x c.exec.new.sites)) (sym c.in-Exec.is) c.exec.ensures.noted
 
 pub serve_objects-requires-clause-objects : goal.serve_objects-requires-clause-objects
-serve_objects-requires-clause-objects g c = of_objects c.args.command.now c.in_default.not-Declare c.in_default.not-Exec
+serve_objects-requires-clause-objects g c = of_objects c.args.command.now c.in_default.not-Declare c.in_default.not-Exec c.requires.beside
 
 pub returns-in_default-clause-serves : goal.returns-in_default-clause-serves
 returns-in_default-clause-serves g c =
@@ -37,7 +37,7 @@ returns-in_default-clause-serves g c =
 
 pub returns-in_default-clause-wants : goal.returns-in_default-clause-wants
 returns-in_default-clause-wants g c =
-    result_left g.P.Pace.went c.args.objects.now c.serve_objects.new.objects c.args.sites.now c.args.command.now c.serve_objects.result (of_objects c.args.command.now c.in_default.not-Declare c.in_default.not-Exec) c.serve_objects.ensures.wants
+    result_left g.P.Pace.went c.args.objects.now c.serve_objects.new.objects c.args.sites.now c.args.command.now c.serve_objects.result (of_objects c.args.command.now c.in_default.not-Declare c.in_default.not-Exec c.requires.beside) c.serve_objects.ensures.wants
 
 pub returns-in_default-clause-noted : goal.returns-in_default-clause-noted
 returns-in_default-clause-noted g c = on-err c.serve_objects.result (wanted_states g.P.Pace.went c.args.objects.now c.args.sites.now c.args.command.now)

@@ -1,16 +1,20 @@
 use Rattle.hc_access.specs.Entries.{AreGood}
 use Rattle.hc_modes.specs.State.{ObjectsState}
 use Rattle.hc_value.specs.declared.reply.Reply.{Reply}
+use Rattle.hc_session.specs.Jobs.{AreSeen}
 use Rattle.hc_session.specs.Standing.{tables_of}
 use Rattle.hc_session.specs.Tables.{all_there, did_by}
+use Rattle.hc_session.proofs.Readers.{good-met, seen-met}
 use Rattle.hc_session.proofs.Obeys.{result_serves}
 use Rattle.hc_session.proofs.Readied.{not-asking, result-keeps}
+use Rattle.hc_session.proofs.Seen.{seen-on}
 use Rattle.hc_session.proofs.serve.serve_objects.Goals as goal
 
 pub returns-clause-good : goal.returns-clause-good
 returns-clause-good g c =
     result-keeps g.P.Pace.went Reply (λ (s : ObjectsState _). AreGood s c.args.sites.now)
     (λ x y did first second came good. c.entries_stay_good.ensures.law x y did c.args.sites.now first.objects second.objects first.cells came good)
+    (λ x y met good. good-met x y c.args.sites.now met good)
     c.args.objects.now c.perform-reply.new.objects (all_there (tables_of c.args.objects.now) c.args.command.now) c.args.command.now (did_by (tables_of c.args.objects.now) c.args.command.now) c.perform-reply.result
     (not-asking g.P.Pace.went (λ (s : ObjectsState _). AreGood s c.args.sites.now) c.args.command.now c.requires.objects)
     (record { objects = c.stands.ensures.sound; cells = c.stands.ensures.cells }) (record { objects = c.stands-2.ensures.sound; cells = c.stands-2.ensures.cells })
@@ -19,3 +23,13 @@ returns-clause-good g c =
 pub returns-clause-serves : goal.returns-clause-serves
 returns-clause-serves g c =
     result_serves g.P.Pace.went c.args.objects.now c.perform-reply.new.objects c.args.sites.now c.args.command.now c.perform-reply.result c.requires.objects c.perform-reply.ensures.answers c.perform-reply.ensures.kept c.perform-reply.ensures.used
+
+pub returns-clause-seen : goal.returns-clause-seen
+returns-clause-seen g c =
+    result-keeps g.P.Pace.went Reply (λ (s : ObjectsState _). AreSeen s.heap.view.trail c.args.sites.now)
+    (λ x y did first second came seen. seen-on x.heap.view.shape x.heap.view.trail y.heap.view.trail c.args.sites.now c.written_is_kept.ensures.law (c.fields_stay_honest.ensures.law x y did first.objects came).goes seen)
+    (λ x y met seen. seen-met x y c.args.sites.now met seen)
+    c.args.objects.now c.perform-reply.new.objects (all_there (tables_of c.args.objects.now) c.args.command.now) c.args.command.now (did_by (tables_of c.args.objects.now) c.args.command.now) c.perform-reply.result
+    (not-asking g.P.Pace.went (λ (s : ObjectsState _). AreSeen s.heap.view.trail c.args.sites.now) c.args.command.now c.requires.objects)
+    (record { objects = c.stands.ensures.sound; cells = c.stands.ensures.cells }) (record { objects = c.stands-2.ensures.sound; cells = c.stands-2.ensures.cells })
+    c.perform-reply.ensures.used c.perform-reply.ensures.want c.requires.seen

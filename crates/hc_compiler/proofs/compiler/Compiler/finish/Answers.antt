@@ -1,4 +1,4 @@
-use Rattle.std.proofs.Common.{◌≡◌, true, ap, sym, subst}
+use Rattle.std.proofs.Common.{◌≡◌, true, ap, sym, subst, arith}
 use Rattle.std.proofs.Math.Nat.{le_refl}
 use Rattle.hc_jobs.specs.Opened.{is_open}
 use Rattle.hc_compiler.specs.Calls.{Finishes}
@@ -13,7 +13,13 @@ finish_job-requires-clause-reading g c = subst (λ (k : Compiling). AreReading c
 pub invariant_of-self : goal.invariant_of-self
 invariant_of-self g c =
     let there : is_open c.self.inside.jobs c.args.j ≡ true = subst (λ (k : Compiling). is_open k.jobs c.args.j ≡ true) (sym c.self.view_is) c.requires.there in
-    numbered-after c.self.inside.started c.self.inside.started c.self.inside.jobs c.finish_job.new.jobs c.args.j c.finish_job.ensures.finishes.others (le_refl c.self.inside.started) (c.self.invariant c.args.j there) c.self.invariant
+    let numbers = c.self.invariant.numbers in
+    let most = c.self.invariant.few in
+    let count = c.finish_job.ensures.finishes.count in
+    record {
+      numbers = numbered-after c.self.inside.started c.self.inside.started c.self.inside.jobs c.finish_job.new.jobs c.self.inside.lent c.args.j c.finish_job.ensures.finishes.others (le_refl c.self.inside.started) (numbers.open_below c.args.j there) (numbers.apart c.args.j there) numbers;
+      few = omega (arith, count, most);
+    }
 
 pub returns-clause-finishes : goal.returns-clause-finishes
 returns-clause-finishes g c = subst (λ (k : Compiling). Finishes c.args.objects.now k.jobs c.args.j c.finish_job.new.objects c.finish_job.new.jobs) c.self.view_is c.finish_job.ensures.finishes
@@ -23,6 +29,9 @@ returns-clause-ended g c = subst (λ (k : Compiling). HasEnded k.jobs c.args.j c
 
 pub returns-clause-started : goal.returns-clause-started
 returns-clause-started g c = ap (λ (k : Compiling). k.started) c.self.view_is
+
+pub returns-clause-lent : goal.returns-clause-lent
+returns-clause-lent g c = ap (λ (k : Compiling). k.lent) c.self.view_is
 
 pub returns-clause-reading : goal.returns-clause-reading
 returns-clause-reading g c = c.finish_job.ensures.reading
