@@ -1,6 +1,6 @@
 -- An access, as a command of tables with sites.
 use Rattle.std.proofs.Common.{◌≡◌, ℕ, ◌+◌, ◌<◌, ◌≤◌, Ok, Err, Bool, true, false, ◌&&◌, List, [], ◌∷◌, ◌++◌, length, map, Option, Some, None, refl, sym, ap, ◌∙◌, subst, arith, append-nil}
-use Rattle.std.specs.Prelude.{◌⊎◌, if◌then◌else◌, is_some, slice_get, OnOk, OnErr, Result}
+use Rattle.std.specs.Prelude.{◌⊎◌, if◌then◌else◌, is_some, slice_get, OnErr, Result}
 use Rattle.std.proofs.lemmas.Bool.{le-ltb, lt-ltb}
 use Rattle.hc_value.specs.declared.memory.Memory.{Memory}
 use Rattle.std.proofs.lemmas.Option.{slice_get-map}

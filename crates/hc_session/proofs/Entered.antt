@@ -1,6 +1,6 @@
 -- What commands of jobs are answered.
-use Rattle.std.proofs.Common.{◌≡◌, ℕ, ◌+◌, ◌<◌, ◌≤◌, Ok, Err, Bool, true, false, ◌&&◌, List, [], ◌∷◌, ◌++◌, length, map, append-nil, Option, Some, None, get_or, refl, sym, ap, ◌∙◌, subst, arith}
-use Rattle.std.specs.Prelude.{◌⊎◌, IfOk, IfSome, OnErr, Result, if◌then◌else◌, is_some, nat_lt, option_map, slice_get}
+use Rattle.std.proofs.Common.{◌≡◌, ℕ, ◌+◌, ◌<◌, ◌≤◌, Ok, Err, Bool, true, false, ◌&&◌, List, [], ◌++◌, length, append-nil, Option, Some, None, get_or, refl, sym, ap, ◌∙◌, subst, arith}
+use Rattle.std.specs.Prelude.{◌⊎◌, IfOk, IfSome, Result, if◌then◌else◌, is_some, option_map, slice_get}
 use Rattle.std.proofs.lemmas.Bool.{le-ltb, lt-ltb}
 use Rattle.std.proofs.lemmas.Option.{slice_get-map, slice_get_cases, slice_get_past}
 use Rattle.hc_board.specs.States.{counted}
@@ -20,14 +20,12 @@ use Rattle.hc_plan.specs.declared.case.Site.{Site}
 use Rattle.hc_question.specs.declared.outcome.Outcome.{Outcome}
 use Rattle.hc_report.specs.declared.line.Line.{Line}
 use Rattle.hc_sites.specs.declared.state.SiteState.{SiteState}
-use Rattle.hc_session.specs.Jobs.{HaveMet, Works, reads_for}
-use Rattle.hc_session.specs.Plain.{compile_reply, has_room, is_accepted_job, is_of_jobs, is_opened, job_reply}
-use Rattle.hc_session.specs.Serving.{Attends, Serves, ServesBeside, ServesJobs}
+use Rattle.hc_session.specs.Jobs.{Works, reads_for}
+use Rattle.hc_session.specs.Plain.{compile_reply, has_room, is_accepted_job, is_of_jobs, is_opened}
+use Rattle.hc_session.specs.Serving.{Attends, Serves, ServesJobs}
 use Rattle.hc_session.specs.Standing.{jobs_of, plain_among}
 use Rattle.hc_session.specs.Tables.{says}
-use Rattle.hc_session.specs.Using.{MovesInWant, uses_if}
 use Rattle.hc_session.proofs.Working.{opened-count, opened-here}
-use Rattle.hc_session.proofs.Worked.{of-uses}
 use mathlib.Core.Logic.{inl, inr}
 
 module _ {P : Type 0} (a : ObjectsState P) (sites : List SiteState) (c : Compiling) (log : List (ℕ × Line)) where

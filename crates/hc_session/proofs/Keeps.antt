@@ -1,7 +1,6 @@
 -- What objects keep, whatever is done to them.
-use Rattle.std.proofs.Common.{◌≡◌, ℕ, ◌≤◌, Ok, Err, List, [], ◌∷◌, ◌++◌, append-nil, refl, sym, ap, ◌∙◌, subst, arith}
+use Rattle.std.proofs.Common.{◌≡◌, ℕ, Ok, Err, List, [], ◌∷◌, append-nil, refl, sym, ap, ◌∙◌, subst, arith}
 use Rattle.std.specs.Prelude.{IfOk, OnErr, Result}
-use Rattle.hc_board.specs.States.{WriterState}
 use Rattle.hc_board.specs.Trail.{Access}
 use Rattle.hc_value.specs.declared.memory.Memory.{Memory}
 use Rattle.hc_value.specs.declared.reply.Reply.{Reply}
@@ -29,7 +28,6 @@ use Rattle.hc_session.specs.Jobs.{HaveMet}
 use Rattle.hc_session.specs.Plain.{act_in}
 use Rattle.hc_session.specs.Serving.{KeepsOn, Serves}
 use Rattle.hc_session.specs.Standing.{plain_with}
-use Rattle.hc_session.specs.State.{Used}
 use Rattle.hc_session.specs.Tables.{did_in}
 use Rattle.hc_session.specs.Using.{MovesInWant, is_accepted, uses_if}
 use Rattle.hc_session.proofs.Readied.{IsKept, used-keeps, want-keeps}

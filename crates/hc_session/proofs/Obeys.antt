@@ -15,7 +15,7 @@ use Rattle.hc_access.specs.Entries.{is_cached}
 use Rattle.hc_plan.specs.declared.case.Op.{Op}
 use Rattle.hc_sites.specs.State.{new_site}
 use Rattle.hc_sites.specs.declared.state.SiteState.{SiteState}
-use Rattle.hc_table.specs.Changes.{Did, Nothing, after}
+use Rattle.hc_table.specs.Changes.{Nothing, after}
 use Rattle.hc_table.specs.Kept.{Kept as Tables, with_world}
 use Rattle.hc_ops.specs.Act.{Act}
 use Rattle.hc_modes.specs.State.{ObjectsState}

@@ -1,5 +1,5 @@
 -- What inline caches say is as true once readers were met.
-use Rattle.std.proofs.Common.{◌≡◌, ℕ, List, Option, Some, None, sym, subst}
+use Rattle.std.proofs.Common.{ℕ, List, Option, Some, None, sym, subst}
 use Rattle.std.specs.Prelude.{IsSomeAnd}
 use Rattle.hc_access.specs.Entries.{AreGood, IsBehind, IsFound, IsGoodWay, IsWatched}
 use Rattle.hc_access.specs.Spots.{Place}

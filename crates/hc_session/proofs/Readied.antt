@@ -11,7 +11,7 @@ use Rattle.hc_commands.specs.declared.command.Command.TheVariants.{Shape, Same, 
 use Rattle.hc_modes.specs.State.{ObjectsState}
 use Rattle.hc_objects.specs.Came.{Came, MadeLive, Moves, world_of}
 use Rattle.hc_objects.specs.Laws.{came-shape, came-stands, came-world, live-moves}
-use Rattle.hc_table.specs.Changes.{Did, Nothing, Moved, after}
+use Rattle.hc_table.specs.Changes.{Did, Moved, after}
 use Rattle.hc_table.specs.Kept.{with_world}
 use Rattle.hc_table.specs.World.{World}
 use Rattle.hc_session.specs.Jobs.{HaveMet}

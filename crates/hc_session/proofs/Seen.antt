@@ -1,15 +1,15 @@
 -- The maps that sites have seen are written.
-use Rattle.std.proofs.Common.{◌≡◌, ℕ, zero, suc, Bool, true, false, List, [], ◌∷◌, ◌++◌, Option, Some, None, refl, sym, ap, subst}
-use Rattle.std.specs.Prelude.{All, IsSome, IsSomeAnd, if◌then◌else◌, not, ◌==◌, slice_get, filter, length, nat_le}
+use Rattle.std.proofs.Common.{◌≡◌, ℕ, zero, suc, Bool, true, false, List, [], ◌∷◌, ◌++◌, Option, Some, None, refl, sym, subst}
+use Rattle.std.specs.Prelude.{IsSome, IsSomeAnd, if◌then◌else◌, not, ◌==◌, slice_get, length, nat_le}
 use Rattle.std.proofs.lemmas.List.Elements.{All-filter, All-nil, All-push, All-weaker}
 use Rattle.hc_board.specs.Trail.{Access}
 use Rattle.hc_layout.specs.declared.shape.Shape.{Shape}
 use Rattle.hc_layout.specs.declared.words.GateWord.{GateWord}
-use Rattle.hc_access.specs.Accesses.{Asked, AskedCell, cell_given, events_at, fills_at, fills_behind, fills_by, fills_for, fills_with, load_fills, load_way, note_events, notes_for, store_fills, unless_cached, with_events, writable_place}
+use Rattle.hc_access.specs.Accesses.{Asked, cell_given, events_at, fills_at, fills_behind, fills_by, fills_for, fills_with, load_fills, load_way, note_events, notes_for, store_fills, unless_cached, with_events, writable_place}
 use Rattle.hc_access.specs.Entries.{is_cached}
 use Rattle.hc_access.specs.Notes.{forgets, forgets_before, forgets_of, maps_at, notes}
 use Rattle.hc_answers.specs.Laws.{AreWritten}
-use Rattle.hc_heap.specs.Kept.{FormsAreKept, GoesOn, Stays, WrittenIsKept}
+use Rattle.hc_heap.specs.Kept.{FormsAreKept, GoesOn, WrittenIsKept}
 use Rattle.hc_heap.specs.Lawful.{Lawful}
 use Rattle.hc_heap.specs.Readings.{bits_in, gate_in, map_in}
 use Rattle.hc_heap.specs.States.{View}
@@ -30,7 +30,7 @@ use Rattle.hc_sites.specs.declared.state.SiteState.{SiteState}
 use Rattle.hc_slots.specs.Cases.{some-is}
 use Rattle.hc_table.specs.World.{object}
 use Rattle.hc_session.specs.Jobs.{AreSeen}
-use mathlib.Core.Logic.{◌⊎◌, inl, inr}
+use mathlib.Core.Logic.{inl, inr}
 
 -- While more is stored
 

@@ -1,21 +1,19 @@
 -- A command of jobs, as a command of a session.
-use Rattle.std.proofs.Common.{◌≡◌, ℕ, Bool, true, false, Ok, Err, List, [], ◌∷◌, ◌++◌, length, drop, append-nil, Option, Some, None, refl, sym, ap, ◌∙◌, subst}
-use Rattle.std.specs.Prelude.{IfOk, OnErr, Result, if◌then◌else◌}
+use Rattle.std.proofs.Common.{◌≡◌, ℕ, Bool, true, false, Ok, Err, List, [], ◌∷◌, ◌++◌, length, drop, append-nil, Option, refl, sym, ap, ◌∙◌, subst}
+use Rattle.std.specs.Prelude.{IfOk, Result, if◌then◌else◌}
 use Rattle.std.proofs.lemmas.List.{drop_at}
 use Rattle.hc_board.specs.States.{counted}
 use Rattle.hc_board.specs.Trail.{Access}
 use Rattle.hc_value.specs.declared.memory.Memory.{Memory}
 use Rattle.hc_value.specs.declared.reply.Reply.{Reply}
-use Rattle.hc_access.specs.Entries.{AreGood}
 use Rattle.hc_commands.specs.declared.command.Command.{Command}
 use Rattle.hc_commands.specs.declared.command.Command.TheVariants.{Compile, Step, Finish}
 use Rattle.hc_commands.specs.declared.command.Reads.{Reads as Asked}
 use Rattle.hc_compiler.specs.Ends.{lines_of}
-use Rattle.hc_compiler.specs.Jobs.{Compiling, is_lent}
+use Rattle.hc_compiler.specs.Jobs.{is_lent}
 use Rattle.hc_modes.specs.State.{ObjectsState}
 use Rattle.hc_objects.specs.Came.{IsStill}
 use Rattle.hc_ops.specs.Act.{Act}
-use Rattle.hc_plan.specs.declared.skip.Why.{Why}
 use Rattle.hc_question.specs.declared.outcome.Outcome.{Outcome}
 use Rattle.hc_question.specs.declared.outcome.Outcome.TheVariants.{Planned, NoPlan}
 use Rattle.hc_report.specs.Lines.{log_line}
@@ -30,7 +28,7 @@ use Rattle.hc_session.specs.Plain.{AreJobsIf, IsEndText, IsEndTextIf, IsLogText,
 use Rattle.hc_session.specs.Serving.{Attends, ServesJobs}
 use Rattle.hc_session.specs.Standing.{Standing, jobs_of, plain_among, plain_of, tables_of}
 use Rattle.hc_session.specs.State.{Became, Does, IsCheap, IsTrueReply, Stands, answer_since, sites_by}
-use Rattle.hc_session.specs.Tables.{IsReplyOf, did_in, says}
+use Rattle.hc_session.specs.Tables.{IsReplyOf, did_in}
 use Rattle.hc_session.specs.Using.{AreReadied, is_accepted, uses_if}
 use Rattle.hc_session.proofs.Keeps.{met-none}
 use Rattle.hc_session.proofs.Obeys.{AreLegal, beside_done, no_move}

@@ -1,8 +1,7 @@
 -- Jobs by their numbers.
-use Rattle.std.proofs.Common.{◌≡◌, ◌≢◌, ℕ, ◌+◌, ◌<◌, ◌≤◌, Bool, true, false, ◌&&◌, ◌||◌, eqb, eqb-true, Option, Some, None, List, [], ◌∷◌, ◌++◌, length, length-append, map, refl, sym, ap, ◌∙◌, subst, arith}
+use Rattle.std.proofs.Common.{◌≡◌, ◌≢◌, ℕ, ◌+◌, Bool, true, false, ◌&&◌, ◌||◌, eqb, eqb-true, Option, Some, None, List, [], ◌∷◌, ◌++◌, length, length-append, map, refl, sym, ap, ◌∙◌, subst, arith}
 use Rattle.std.specs.Prelude.{IsSomeAnd, if◌then◌else◌, is_some, not}
 use Rattle.std.proofs.lemmas.List.{length-map}
-use Rattle.hc_commands.specs.declared.command.Command.TheVariants.{Compile, Step, Finish}
 use Rattle.hc_compiler.specs.Jobs.{Compiling, Opening, OthersStay, is_lent, lent_at, open_count}
 use Rattle.hc_jobs.specs.Opened.{is_open, open_at}
 use Rattle.hc_jobs.specs.declared.reads.Reads.{Reads}

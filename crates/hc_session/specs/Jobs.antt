@@ -1,5 +1,5 @@
 -- What commands of jobs do, and what holds of sites and jobs between commands.
-use Rattle.std.specs.Prelude.{◌≡◌, ◌⊎◌, ℕ, ◌+◌, Bool, true, false, List, [], Some, length, slice_get}
+use Rattle.std.specs.Prelude.{◌≡◌, ℕ, ◌+◌, Bool, true, false, List, [], Some, length, slice_get}
 use Rattle.hc_board.specs.Parts.{MetEntry}
 use Rattle.hc_board.specs.States.{counted}
 use Rattle.hc_heap.specs.Writes.{Trail}

@@ -5,6 +5,7 @@ pub mod Using
 pub mod Jobs
 pub mod Logging
 pub mod State
+pub mod Begins
 pub mod Serving
 pub mod Fault
 pub mod Output

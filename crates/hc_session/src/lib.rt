@@ -2,6 +2,7 @@
 #![tactic(auto)]
 
 mod answer;
+mod begun;
 mod exec;
 mod jobs;
 mod pace;
@@ -14,6 +15,7 @@ mod session;
 mod using;
 mod write;
 
+pub use begun::Begun;
 pub use pace::Scripted;
 pub use perform::perform_on_tables;
 pub use replaying::replay;

@@ -1,6 +1,8 @@
-ghost use Rattle.std.specs.Prelude.{◌≡◌, ◌<◌, [], ◌∷◌, ◌++◌, true, false, length, IfOk, OnOk, OnErr};
+ghost use Rattle.std.specs.Prelude.{◌≡◌, ◌<◌, ◌-◌, ◌^◌, [], ◌∷◌, ◌++◌, true, false, length, IfOk, OnOk, OnErr};
 ghost use Rattle.hc_layout.specs.Shape.{IsShape};
+ghost use Rattle.hc_compiler.specs.Jobs.{is_lent};
 ghost use Rattle.hc_modes.specs.Admitting.{ConstantsStay};
+ghost use Rattle.hc_session.specs.Begins.{Begins, WantsToBegin};
 ghost use Rattle.hc_session.specs.Fresh.{IsNew};
 ghost use Rattle.hc_session.specs.Jobs.{IsNotLent};
 ghost use Rattle.hc_session.specs.Logging.{mark_at};
@@ -9,6 +11,7 @@ ghost use Rattle.hc_session.specs.State.{Does, Stands, Wants, answer_since};
 ghost use Rattle.hc_session.specs.Tables.{HasNumbers};
 
 use crate::Scripted;
+use crate::begun::{Begun, begin};
 use crate::serve::attend;
 use hc_access::entries_stay_good;
 use hc_compiler::Compiler;
@@ -71,7 +74,7 @@ impl Session<Scripted> {
 }
 
 impl<P: Pace> Session<P> {
-    /// Whether no command was performed.
+    /// Whether no command was performed, and no caller asked for a job.
     pub fn fresh(&self) -> bool
         ensures fresh { result ≡ self.now.fresh }
         ensures untouched { result ≡ true → IsNew self.now }
@@ -109,6 +112,37 @@ impl<P: Pace> Session<P> {
         reply
     }
 
+    /// Asks for a job of a site, which its caller has from then on: the job, which is new, and a reader that begins here. It gets the
+    /// next number exactly where it is started. After want of memory all is as it was, but for the mark where it was put.
+    pub fn begin(&mut self, s: u32) -> Result<Begun, Memory>
+        requires jobs { self.old.compiler.started < 2 ^ 32 - 1 }
+        ensures begins { IfOk result (λ begun. Begins self.old s begun self.new) }
+        ensures wants { OnErr result (WantsToBegin self.old self.new) }
+        ensures stands { Stands self.new.objects }
+        ensures fresh { self.new.fresh ≡ false }
+    {
+        self.objects.stands();
+        self.fresh = false;
+        let marked = put_mark(&self.objects, &self.sites, &mut self.log, &mut self.marks);
+        marked?;
+        let begun = begin(
+            &mut self.objects,
+            &self.sites,
+            &mut self.compiler,
+            self.shape,
+            s,
+        );
+        self.objects.stands();
+        begun
+    }
+
+    /// Whether a caller has the job of a number, which `begin` handed out.
+    pub fn lent(&self, j: u32) -> bool
+        ensures lent { result ≡ is_lent self.now.compiler.lent j }
+    {
+        self.compiler.is_lent(j)
+    }
+
     /// How many sites were declared.
     pub fn sites(&self) -> u32
         ensures { result ≡ length self.now.sites }
@@ -130,14 +164,14 @@ impl<P: Pace> Session<P> {
         &self.log
     }
 
-    /// What stood when each command began.
+    /// What stood when each command began, and each call that asks for a job.
     pub fn marks(&self) -> &Marks
         ensures { result.now ≡ self.now.marks }
     {
         &self.marks
     }
 
-    /// What holds of the objects, and where no command was performed.
+    /// What holds of the objects, and where nothing was done.
     pub fn stands(&self)
         ensures stands { Stands self.now.objects }
         ensures fits { P.fits self.now.objects.heap.pace self.now.objects.heap.desk.board }

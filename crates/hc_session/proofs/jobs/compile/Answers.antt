@@ -1,4 +1,4 @@
-use Rattle.std.proofs.Common.{◌≡◌, ◌<◌, ◌≤◌, length, arith}
+use Rattle.std.proofs.Common.{◌<◌, ◌≤◌, length, arith}
 use Rattle.hc_session.proofs.Entered.{compile-full, compile-nowhere, compiled}
 use Rattle.hc_session.proofs.jobs.compile.Goals as goal
 

@@ -1,5 +1,3 @@
-use Rattle.hc_objects.specs.State.{IsStanding}
-use Rattle.hc_session.specs.Serving.{KeepsOn}
 use Rattle.hc_session.proofs.Keeps.{Laws, result-keeps-on}
 use Rattle.hc_session.proofs.Obeys.{result_names}
 use Rattle.hc_session.proofs.serve.serve_beside.Goals as goal

@@ -1,8 +1,6 @@
-use Rattle.std.proofs.Common.{◌≡◌, false, refl, ap, ◌∙◌, subst}
-use Rattle.hc_compiler.specs.Jobs.{Compiling}
+use Rattle.std.proofs.Common.{false, refl, ap, subst}
 use Rattle.hc_modes.specs.Admitting.{ConstantsStay}
 use Rattle.hc_modes.specs.State.{ObjectsState}
-use Rattle.hc_session.specs.Jobs.{IsNotLent}
 use Rattle.hc_session.specs.Standing.{Standing}
 use Rattle.hc_session.proofs.Accessed.{on-err}
 use Rattle.hc_session.proofs.Obeys.{constants_kept, has_mark, has_none, result_wanted}
