@@ -1,0 +1,6 @@
+mod Lists
+mod Tests
+mod Discarding
+mod Keeping
+mod Settling
+mod Resting

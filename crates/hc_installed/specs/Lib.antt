@@ -1,0 +1,4 @@
+pub mod Installed
+pub mod Discards
+pub mod Settles
+pub mod Laws
