@@ -72,7 +72,7 @@ parent-some (Some p) c is = ap (λ (q : Option ℕ). Some q) is
 parent-some None c is = let n : None ≡ Some c = is in let f : ⊥ = cc in absurd f
 
 -- a child that fits is the live one
-fit-live : (t : Trail) (l : Option ℕ) (x n : ℕ) (d : Detail) → fit_of t l n d ≡ Some x → l ≡ Some x
+pub fit-live : (t : Trail) (l : Option ℕ) (x n : ℕ) (d : Detail) → fit_of t l n d ≡ Some x → l ≡ Some x
 fit-live t None x n d is = let e : None ≡ Some x = is in let f : ⊥ = cc in absurd f
 fit-live t (Some c) x n d is = by (joins_in_place (detail_at t c n) (Some d)) is
   where

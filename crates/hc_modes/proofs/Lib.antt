@@ -71,3 +71,4 @@ pub mod Updated
 pub mod Replaced
 pub mod Outgrown
 pub mod Readied
+pub mod Known

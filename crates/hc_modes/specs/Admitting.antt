@@ -1,6 +1,7 @@
 -- What the fields of objects' maps are asked to admit.
-use Rattle.std.specs.Prelude.{◌≡◌, ℕ, ◌+◌, IsTrue, IsSomeAnd, Some}
-use Rattle.hc_value.specs.Field.{in_place_of, is_detail_within, join_of, rep_of}
+use Rattle.std.specs.Prelude.{◌≡◌, ℕ, ◌+◌, false, IsTrue, IsSomeAnd, Some}
+use Rattle.hc_value.specs.Attrs.{no_attributes}
+use Rattle.hc_value.specs.Field.{in_place_of, is_detail_within, join_of, joined_class, rep_of}
 use Rattle.hc_value.specs.declared.field.Constness.{Constness}
 use Rattle.hc_value.specs.declared.field.Constness.TheVariants.{Const}
 use Rattle.hc_value.specs.declared.field.Detail.{Detail}
@@ -10,16 +11,19 @@ use Rattle.hc_value.specs.declared.prop.Prop.{Prop}
 use Rattle.hc_value.specs.Prop.{kind_of}
 use Rattle.hc_value.specs.declared.field.Rep.{Rep}
 use Rattle.hc_value.specs.declared.field.Rep.TheVariants.{Tagged}
+use Rattle.hc_value.specs.declared.value.Value.{Value}
 use Rattle.hc_layout.specs.declared.shape.Shape.{Shape}
+use Rattle.hc_layout.specs.declared.words.GateWord.{GateWord}
 use Rattle.hc_heap.specs.Kept.{GoesOn}
 use Rattle.hc_heap.specs.Lawful.{IsFormOf}
 use Rattle.hc_heap.specs.Writes.{Slot, Trail}
-use Rattle.hc_heap.specs.Readings.{detail_in, map_in, store_in}
+use Rattle.hc_heap.specs.Readings.{bits_in, detail_in, gate_in, map_in, store_in}
 use Rattle.hc_heap.specs.States.{View, with_write}
 use Rattle.hc_descs.specs.Entries.{detail_at, field_at}
+use Rattle.hc_links.specs.Chains.{child_of}
 pub use Rattle.hc_facts.specs.Constants.{ConstantsStay}
 pub use Rattle.hc_facts.specs.Honest.{IsHonest}
-use Rattle.hc_facts.specs.Honest.{detail_for}
+use Rattle.hc_facts.specs.Honest.{class_of, detail_for}
 use Rattle.hc_fields.specs.Fields.{raised}
 use Rattle.hc_tree.specs.Tree.{tagged_field}
 use Rattle.hc_slots.specs.Meaning.{IsConstnessFor, MayHold, held_in, slot_word}
@@ -78,6 +82,29 @@ pub record IsGrownBy (t : Trail) (m c n : ℕ) (p : Prop) : Type 0 where
 -- the field of an object's n-th property, which it got, admits what that held
 abbrev pub AsksLast : Trail → Trail → ℕ → ℕ → Prop → Type 0
 AsksLast old new o n p = (c : ℕ) (d : Detail) → map_in new o ≡ Some c → detail_at new c n ≡ Some d → IsTrue (is_detail_within (held_detail old p.held Const) d)
+
+-- a field that admits so much admits a value as it is: joining with what the value asks leaves its representation and its class
+pub record AdmitsAsIs (t : Trail) (d : Detail) (v : Value) : Type 0 where
+  pub rep : join_of (rep_of v) d.rep ≡ d.rep
+  pub class : joined_class d.class (class_of t v) ≡ d.class
+
+-- the property that a store adds: data, with no attribute set (ECMA-262, 10.1.9.2)
+abbrev pub added : ℕ → Value → Prop
+added name v = record { name = name; attrs = no_attributes; held = Datum v }
+
+-- the newest child of a map for a name, as a store adds one, isn't deprecated, and the field of its last entry admits a value as it is
+pub record IsChildWith (t : Trail) (m child name : ℕ) (v : Value) : Type 0 where
+  pub newest : child_of t m (key_of (added name v)) ≡ Some child
+  pub live : (bits_in t child).deprecated ≡ false
+  pub gate : GateWord
+  pub is_open : gate_in t child ≡ Some gate
+  pub slot : ℕ
+  pub last : slot + 1 ≡ gate.entries
+  pub field : ℕ
+  pub is_field : field_at t child slot ≡ Some field
+  pub detail : Detail
+  pub is_detail : detail_in t field ≡ Some detail
+  pub admits : AdmitsAsIs t detail v
 
 -- each write was lawful, what fields say of values stays true, and constants stay
 pub record FactsStay (s : Shape) (old new : Trail) : Type 0 where

@@ -1,5 +1,6 @@
 -- How an object's slots are filled, and how it comes to a map with one entry more.
-use Rattle.std.specs.Prelude.{◌≡◌, ◌≢◌, ℕ, ◌+◌, ◌<◌, ◌++◌, false, IsTrue, List, Some}
+use Rattle.std.specs.Prelude.{◌≡◌, ◌≢◌, ◌⊎◌, ℕ, ◌+◌, ◌-◌, ◌<◌, ◌≤◌, ◌++◌, false, IsTrue, IfSome, List, Some}
+use Rattle.hc_layout.specs.Capacity.{cap_of}
 use Rattle.hc_layout.specs.declared.shape.Region.TheVariants.{Slots}
 use Rattle.hc_layout.specs.declared.shape.Shape.{Shape}
 use Rattle.hc_layout.specs.declared.words.StoreWord.{StoreWord}
@@ -10,8 +11,9 @@ use Rattle.hc_heap.specs.Writes.{Trail, Write}
 use Rattle.hc_heap.specs.Readings.{bits_in, map_in, root_in, store_in}
 use Rattle.hc_heap.specs.Lawful.{IsFormOf}
 use Rattle.hc_heap.specs.States.{View, HasRoom}
+use Rattle.hc_descs.specs.Entries.{detail_at}
 use Rattle.hc_tree.specs.Dying.{HaveDied, OutgrownFor}
-use Rattle.hc_tree.specs.Growth.{child_need, fitting_child, marked}
+use Rattle.hc_tree.specs.Growth.{asked_detail, child_need, fitting_child, marked}
 use Rattle.hc_tree.specs.Needs.{HasSpace, with_need}
 use Rattle.hc_value.specs.declared.field.Detail.{Detail}
 use Rattle.hc_slots.specs.Meaning.{held_in, slot_word}
@@ -23,6 +25,23 @@ use Rattle.hc_modes.specs.Changes.{ChangedBut, OpensNoRoot, IsGrown, key_of}
 -- the counts after an object with n properties got slots for one more
 abbrev pub with_slots : StoreWord → ℕ → Shape → Shape
 with_slots w n used = record used { slots = used.slots + slots_need n w.capacity }
+
+-- so many slots weren't handed out yet
+abbrev pub free_slots : View → ℕ
+free_slots v = v.shape.slots - v.used.slots
+
+-- an object has a slot of this number, or there is room for the slots that it gets with one more property
+abbrev pub HasSlotFor : View → ℕ → ℕ → Type 0
+HasSlotFor v o slot = (slot < (store_in v.trail o).capacity) ⊎ (cap_of (slot + 1) ≤ free_slots v)
+
+-- a map with n entries has this child that fits a property, whose last field admits already what the property holds
+pub record FitsAsIs (t : Trail) (m child n : ℕ) (p : Prop) : Type 0 where
+  pub fits : fitting_child t m (key_of p) (held_detail t p.held Const) ≡ Some child
+  pub stays : detail_at t child n ≡ Some (asked_detail t m (key_of p) (held_detail t p.held Const))
+
+-- the map of an object with n properties has such a child
+abbrev pub HasChildFor : Trail → ℕ → ℕ → ℕ → Prop → Type 0
+HasChildFor t o child n p = IfSome (map_in t o) (λ m. FitsAsIs t m child n p)
 
 -- the counts after it came besides to the child of its map, which was made where there was no live one that fits
 abbrev pub with_growth : Trail → ℕ → ℕ → ℕ → Prop → Shape → Shape

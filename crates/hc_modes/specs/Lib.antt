@@ -14,6 +14,7 @@ pub mod Linking
 pub mod Steps
 pub mod Replaced
 pub mod Came
+pub mod Planned
 pub mod Becoming
 pub mod Inheriting
 pub mod Laws

@@ -1,5 +1,5 @@
 //! An object that gets one property more, and the map for it.
-ghost use Rattle.std.specs.Prelude.{ℕ, ◌≡◌, ◌+◌, ◌<◌, ◌↔◌, false, Some, IsTrue};
+ghost use Rattle.std.specs.Prelude.{ℕ, ◌≡◌, ◌+◌, ◌<◌, ◌↔◌, false, Some, IfSome, IsTrue};
 ghost use Rattle.hc_layout.specs.declared.capacity.TheConstants.{MAX_FAST};
 ghost use Rattle.hc_layout.specs.declared.shape.Region.TheVariants.{Slots};
 ghost use Rattle.hc_heap.specs.Lawful.{HoldsEntries, IsKey};
@@ -12,7 +12,7 @@ ghost use Rattle.hc_tree.specs.Tree.{IsTree, IsProperKey, gate_with};
 ghost use Rattle.hc_modes.specs.Admitting.{AsksLast, IsGrownBy};
 ghost use Rattle.hc_modes.specs.Changes.{key_of};
 ghost use Rattle.hc_modes.specs.Details.{DetailsAre, GrownGets};
-ghost use Rattle.hc_modes.specs.Filling.{IsMoved, IsMovedBut, MayGrowBy, with_growth, with_slots};
+ghost use Rattle.hc_modes.specs.Filling.{FitsAsIs, IsMoved, IsMovedBut, MayGrowBy, with_growth, with_slots};
 ghost use Rattle.hc_slots.specs.Slots.{slots_need, AreHandedOut};
 ghost use Rattle.hc_table.specs.Ranges.{IsHeldInRange};
 
@@ -56,9 +56,16 @@ fn move_to_child<P: Pace>(h: &mut Heap<P>, object: u32, map: u32, child: u32, n:
     h.set_object_map(object, Some(child));
 }
 
-// Has an object with n properties get one more: it comes to the child of its map. The answer is whether there was
-// room; where there was none, nothing is stored.
-pub(crate) fn grow_object<P: Pace>(h: &mut Heap<P>, object: u32, map: u32, n: u32, p: Prop) -> bool
+// Has an object with n properties get one more: it comes to the child of its map, which may be known. The answer is whether there
+// was room; where there was none, nothing is stored.
+pub(crate) fn grow_object<P: Pace>(
+    h: &mut Heap<P>,
+    object: u32,
+    map: u32,
+    n: u32,
+    p: Prop,
+    known: Option<u32>,
+) -> bool
     requires tree { IsTree h.old.view.trail }
     requires few { n < MAX_FAST }
     requires live { (bits_in h.old.view.trail map).deprecated ≡ false }
@@ -72,6 +79,7 @@ pub(crate) fn grow_object<P: Pace>(h: &mut Heap<P>, object: u32, map: u32, n: u3
     requires range { IsHeldInRange p.held }
     requires out { AreHandedOut h.old.view.used.slots (store_in h.old.view.trail object) }
     requires handed { object < h.old.view.used.objects }
+    requires known { IfSome known (λ child. FitsAsIs h.old.view.trail map child n p) }
     ensures room { IsTrue result ↔ MayGrowBy h.old.view object map n p }
     ensures moved { IsTrue result → IsMoved h.old.view h.new.view object map n p }
     ensures details { IsTrue result → DetailsAre (GrownGets false h.old.view.trail h.old.view.used map n p) h.old.view.trail h.new.view.trail }
@@ -90,6 +98,10 @@ pub(crate) fn grow_object<P: Pace>(h: &mut Heap<P>, object: u32, map: u32, n: u3
     let store = h.store(object);
     if !h.room(Region::Slots, slots_needed(n, store.capacity)) {
         return false;
+    }
+    if let Some(child) = known {
+        move_to_child(h, object, map, child, n, p);
+        return true;
     }
     let held = p.held;
     let key = Key {

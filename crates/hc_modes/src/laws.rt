@@ -7,6 +7,7 @@ ghost use Rattle.hc_table.specs.Changes.{Did};
 ghost use Rattle.hc_modes.specs.Admitting.{FactsStay, IsHonest};
 ghost use Rattle.hc_cells.specs.Chains.{HaveEnds, proto_at};
 ghost use Rattle.hc_table.specs.World.{object};
+ghost use Rattle.hc_modes.specs.Planned.{ComersMayGet};
 ghost use Rattle.hc_modes.specs.Came.{Came, IsMadeLive, Moves, world_of};
 ghost use Rattle.hc_modes.specs.Validity.{OnlyCells, protos_of};
 ghost use Rattle.hc_modes.specs.Cells.{CellsStay};
@@ -19,7 +20,9 @@ use hc_heap::{
     Pace, deprecated_are_unstable, gates_are_open, positions_are_stores, positions_go_on,
     stores_are_writes, unused_says_nothing,
 };
-use hc_tree::{live_stand_high, maps_are_kept, one_is_live, owners_stand, roots_stand};
+use hc_tree::{
+    live_is_child, live_stand_high, maps_are_kept, one_is_live, owners_stand, roots_stand,
+};
 
 /// Where the board's stores go on, so do the writes that are read from them, and each of these is lawful.
 pub fn writes_go_on()
@@ -86,4 +89,12 @@ pub fn alike_objects_stay_live<P: Pace>()
     owners_stand();
     roots_stand();
     unused_says_nothing();
+}
+
+/// An object whose map's child for a name is known, to which it may come, lacks the name, and may get properties.
+pub fn comers_may_get()
+    ensures law { ComersMayGet }
+{
+    gates_are_open();
+    live_is_child();
 }

@@ -16,6 +16,7 @@ mod looks;
 mod migrating;
 mod moving;
 mod objects;
+mod planned;
 mod privates;
 mod properties;
 mod readers;
@@ -27,7 +28,7 @@ mod slow;
 mod writes;
 
 pub use laws::{
-    alike_objects_stay_live, chains_are_told, fields_stay_honest, operations_leave_cells,
-    operations_spend_little, prototypes_stay_calm, writes_go_on,
+    alike_objects_stay_live, chains_are_told, comers_may_get, fields_stay_honest,
+    operations_leave_cells, operations_spend_little, prototypes_stay_calm, writes_go_on,
 };
 pub use objects::Objects;

@@ -50,7 +50,7 @@ impl<P: Pace> Objects<P> {
         if self.is_proto(o) {
             return self.add_private(o, *p);
         }
-        self.add_fast(o, *p)
+        self.add_fast(o, *p, None)
     }
 
     // Has a fast object be slow, for a cause, and get a new last property.

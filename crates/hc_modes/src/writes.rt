@@ -1,5 +1,5 @@
 //! Changes of one object that is fast.
-ghost use Rattle.std.specs.Prelude.{ℕ, ◌≡◌, ◌<◌, ◌↔◌, true, false, IsTrue, None, Some, length};
+ghost use Rattle.std.specs.Prelude.{ℕ, ◌≡◌, ◌<◌, ◌↔◌, true, false, IsTrue, None, Some, IfSome, length};
 ghost use Rattle.hc_layout.specs.declared.capacity.TheConstants.{MAX_FAST};
 ghost use Rattle.hc_value.specs.Prop.{kind_of};
 ghost use Rattle.hc_heap.specs.Readings.{root_in};
@@ -9,6 +9,7 @@ ghost use Rattle.hc_table.specs.Changes.{Added, Wrote, kind_at};
 ghost use Rattle.hc_table.specs.World.{object, props_at, place_of};
 ghost use Rattle.hc_modes.specs.Details.{AddKills, AddedGets, DetailsAre, DetailsFirst, WroteGets};
 ghost use Rattle.hc_modes.specs.Admitting.{FitsField};
+ghost use Rattle.hc_modes.specs.Filling.{HasChildFor};
 ghost use Rattle.hc_modes.specs.Rest.{Marks, MarksBut};
 ghost use Rattle.hc_modes.specs.Modes.{IsWithin, add_need};
 ghost use Rattle.hc_modes.specs.Meaning.{kept_of};
@@ -66,9 +67,9 @@ impl<P: Pace> Objects<P> {
         put_slot(&mut self.heap, o, i, word);
     }
 
-    // Gives a fast object that has few properties, and isn't a prototype, a new last one. The answer is whether there
-    // was room; where there was none, nothing is stored.
-    pub(crate) fn add_fast(&mut self, o: u32, p: Prop) -> bool
+    // Gives a fast object that has few properties, and isn't a prototype, a new last one, by the child of its map, which may be
+    // known. The answer is whether there was room; where there was none, nothing is stored.
+    pub(crate) fn add_fast(&mut self, o: u32, p: Prop, known: Option<u32>) -> bool
         requires object { o < length (world_of self.old) }
         requires fast { kept_of self.old.kept o ≡ None }
         requires absent { place_of (props_at (world_of self.old) o) p.name ≡ None }
@@ -77,6 +78,7 @@ impl<P: Pace> Objects<P> {
         requires proper { IsProper p }
         requires shared { (root_in self.old.heap.view.trail o).is_proto ≡ false }
         requires live { IsLive self.old.heap.view.trail o }
+        requires known { IfSome known (λ child. HasChildFor self.old.heap.view.trail o child (length (props_at (world_of self.old) o)) p) }
         ensures room { IsTrue result ↔ HasSpace self.old.heap.view (add_need self.old.heap.view.trail o p) }
         ensures added { IsTrue result → Steps P.went self.old (Added o p) self.new }
         ensures still { result ≡ false → IsStill self.old self.new }
@@ -100,6 +102,6 @@ impl<P: Pace> Objects<P> {
         stored_is_given();
         let map = map_of(&mut self.heap, o);
         let gate = self.heap.gate(map).unwrap();
-        grow_object(&mut self.heap, o, map, gate.entries, p)
+        grow_object(&mut self.heap, o, map, gate.entries, p, known)
     }
 }

@@ -4,12 +4,14 @@ use Rattle.std.specs.Prelude.{IsTrue, not, slice_get, slice_set}
 use Rattle.std.proofs.lemmas.List.{get_or-set_same}
 use Rattle.hc_value.specs.declared.prop.Held.{Held}
 use Rattle.hc_value.specs.declared.prop.Prop.{Prop}
+use Rattle.hc_value.specs.declared.value.Value.{Value}
 use Rattle.hc_table.specs.Attributes.{restricted}
 use Rattle.hc_table.specs.Changes.{removed_at}
 use Rattle.hc_table.specs.World.{Object, World, held_at, holding, new_object, object, props_at}
 use Rattle.hc_slots.specs.Cases.{some-is}
+use Rattle.hc_modes.specs.Admitting.{added}
 use Rattle.hc_objects.specs.Changes.{Alters}
-use Rattle.hc_objects.specs.declared.change.Change.TheVariants.{Add, Write, Put, Remove, Link, Lock, Restrict}
+use Rattle.hc_objects.specs.declared.change.Change.TheVariants.{Add, AddBy, Write, Put, Remove, Link, Lock, Restrict}
 
 -- Lists of properties
 
@@ -82,6 +84,9 @@ module _ (w : World) (o : ℕ) (lt : o < length w) where
         omega (arith, size, one);
     same = λ if_false. absurd (true≢false if_false);
   }
+
+  pub alters-add_by : (child name : ℕ) (value : Value) → Alters w o (AddBy child name value) true
+  alters-add_by child name value = let it = alters-add (added name value) in record { other = it.other; same = it.same }
 
   pub alters-write : (i : ℕ) (held : Held) (p : Prop) (test : Bool) → slice_get (props_at w o) i ≡ Some p → (IsTrue test → p.held ≢ held) → (test ≡ false → p.held ≡ held) → Alters w o (Write i held) test
   alters-write i held p test at if_true if_false = record {

@@ -1,6 +1,6 @@
 -- A change of one object, and the cells that follow, from the first load to the last store.
-use Rattle.std.proofs.Common.{◌≡◌, ◌≢◌, ℕ, ◌<◌, ◌≤◌, Bool, true, false, List, Option, Some, None, length, refl, sym, ap, ◌∙◌, subst, arith, inl, inr}
-use Rattle.std.specs.Prelude.{◌⊎◌, IfSome, IsSomeAnd, IsTrue, OnErr, OnOk, Result, Ok, Err}
+use Rattle.std.proofs.Common.{◌≡◌, ◌≢◌, ℕ, ◌<◌, ◌≤◌, Bool, true, false, List, Option, Some, None, length, refl, sym, ap, ◌∙◌, subst, arith}
+use Rattle.std.specs.Prelude.{IfSome, IsSomeAnd, IsTrue, OnErr, OnOk, Result, Ok, Err}
 use Rattle.hc_layout.specs.declared.words.CellWord.{CellWord}
 use Rattle.hc_board.specs.Trail.{Access}
 use Rattle.hc_facts.specs.Laws.{ConstantsStayOn}
@@ -16,17 +16,17 @@ use Rattle.hc_slots.specs.Cases.{some-is}
 use Rattle.hc_modes.specs.Came.{Came, IsStill, Moves, world_of}
 use Rattle.hc_modes.specs.Admitting.{FactsStay}
 use Rattle.hc_modes.specs.Cells.{CellsStay}
-use Rattle.hc_modes.specs.Laws.{came-after, came-before, came-shape, still-refl, with_loads}
+use Rattle.hc_modes.specs.Laws.{came-after, came-before, came-shape, still-refl}
 use Rattle.hc_modes.specs.Rest.{AreCalm}
 use Rattle.hc_modes.specs.Spent.{IsSpent}
 use Rattle.hc_modes.specs.State.{IsObjects, ObjectsState}
-use Rattle.hc_modes.specs.Validity.{CellFollows, CellsFollow, ChangesOn, StaysPut, protos_of}
+use Rattle.hc_modes.specs.Validity.{CellsFollow, StaysPut, protos_of}
 use Rattle.hc_objects.specs.Came.{FollowedBy}
 use Rattle.hc_objects.specs.Changes.{MayChange, did_of, named_by}
 use Rattle.hc_objects.specs.Following.{AreInvalidatedAt, WatchedBut, told_also, told_of}
 use Rattle.hc_objects.specs.State.{IsFaithful, IsWatching}
 use Rattle.hc_objects.specs.declared.change.Change.{Change}
-use Rattle.hc_objects.specs.declared.change.Change.TheVariants.{Add, Write, Put, Remove, Link, Lock, Restrict}
+use Rattle.hc_objects.specs.declared.change.Change.TheVariants.{Add, AddBy, Write, Put, Remove, Link, Lock, Restrict}
 use Rattle.hc_objects.proofs.Alone.{alone-then}
 use Rattle.hc_objects.proofs.Beside.{apart-of, chain-there, changed-count, changed-put, changed-world, created-count, created-put, created-world, wanted-count, wanted-put, wanted-world}
 use Rattle.hc_objects.proofs.Follows.{cells-follow, still-watched}
@@ -214,6 +214,7 @@ pub apart-may : (w : World) (o : ℕ) (change : Change) → o < length w → May
 apart-may w o (Link (Some r)) lt may p e = let same : r ≡ p = some-is r p e in apart-of w o p lt (subst (λ (k : ℕ). reaches w (Some k) o ≡ false) same may.1)
 apart-may w o (Link None) lt may p e = let f : ⊥ = cc in absurd f
 apart-may w o (Add q) lt may p e = let f : ⊥ = cc in absurd f
+apart-may w o (AddBy child name value) lt may p e = let f : ⊥ = cc in absurd f
 apart-may w o (Write i held) lt may p e = let f : ⊥ = cc in absurd f
 apart-may w o (Put i q) lt may p e = let f : ⊥ = cc in absurd f
 apart-may w o (Remove i) lt may p e = let f : ⊥ = cc in absurd f
@@ -224,6 +225,7 @@ apart-may w o (Restrict frozen) lt may p e = let f : ⊥ = cc in absurd f
 pub there-may : (w : World) (o : ℕ) (change : Change) → MayChange w o change → IsThere w (named_by change)
 there-may w o (Link proto) may = may.0
 there-may w o (Add q) may = tt
+there-may w o (AddBy child name value) may = tt
 there-may w o (Write i held) may = tt
 there-may w o (Put i q) may = tt
 there-may w o (Remove i) may = tt

@@ -21,7 +21,7 @@ use Rattle.hc_modes.specs.State.{IsObjects, ObjectsState}
 use Rattle.hc_modes.specs.Validity.{StaysPut, protos_of}
 use Rattle.hc_objects.specs.Changes.{did_of, named_by}
 use Rattle.hc_objects.specs.declared.change.Change.{Change}
-use Rattle.hc_objects.specs.declared.change.Change.TheVariants.{Add, Write, Put, Remove, Link, Lock, Restrict}
+use Rattle.hc_objects.specs.declared.change.Change.TheVariants.{Add, AddBy, Write, Put, Remove, Link, Lock, Restrict}
 use Rattle.hc_objects.proofs.Told.{Told, count-world, fast-map, slow-mapless}
 
 -- Worlds
@@ -29,6 +29,7 @@ use Rattle.hc_objects.proofs.Told.{Told, count-world, fast-map, slow-mapless}
 -- a change of an object leaves the others
 pub change-other : (w : World) (o q : ℕ) (change : Change) → q ≢ o → object (after (did_of o change) w) q ≡ object w q
 change-other w o q (Add p) other = get_or-set_other w o q _ _ other
+change-other w o q (AddBy child name value) other = get_or-set_other w o q _ _ other
 change-other w o q (Write i held) other = get_or-set_other w o q _ _ other
 change-other w o q (Put i p) other = get_or-set_other w o q _ _ other
 change-other w o q (Remove i) other = get_or-set_other w o q _ _ other
@@ -39,6 +40,7 @@ change-other w o q (Restrict frozen) other = get_or-set_other w o q _ _ other
 -- and makes none
 pub change-length : (w : World) (o : ℕ) (change : Change) → length (after (did_of o change) w) ≡ length w
 change-length w o (Add p) = length-set w o _
+change-length w o (AddBy child name value) = length-set w o _
 change-length w o (Write i held) = length-set w o _
 change-length w o (Put i p) = length-set w o _
 change-length w o (Remove i) = length-set w o _
@@ -96,6 +98,7 @@ module _ {P : Type 0} (went : P → List Access → List Access → P → Type 0
 
   change-maps : (a x : ObjectsState P) (o q : ℕ) (change : Change) → q ≢ o → (named_by change ≡ Some q → ⊥) → Came went a (did_of o change) x → map_in x.heap.view.trail q ≡ map_in a.heap.view.trail q
   change-maps a x o q (Add p) other apart h = h.own.marks.maps q other ∙ still-map a h.mid h.moves q
+  change-maps a x o q (AddBy child name value) other apart h = h.own.marks.maps q other ∙ still-map a h.mid h.moves q
   change-maps a x o q (Write i held) other apart h = h.own.marks.maps q other ∙ still-map a h.mid h.moves q
   change-maps a x o q (Put i p) other apart h = h.own.marks.maps q other ∙ still-map a h.mid h.moves q
   change-maps a x o q (Remove i) other apart h = h.own.marks.maps q other ∙ still-map a h.mid h.moves q

@@ -1,5 +1,5 @@
 -- Whatever is done, the trail goes on.
-use Rattle.std.proofs.Common.{◌≡◌, ℕ, ◌+◌, ◌≤◌, List, [], ◌∷◌, refl, sym, ◌∙◌, subst}
+use Rattle.std.proofs.Common.{ℕ, List, [], ◌∷◌, refl, sym, ◌∙◌, subst}
 use Rattle.hc_board.specs.Trail.{Access}
 use Rattle.hc_layout.specs.declared.shape.Shape.{Shape}
 use Rattle.hc_facts.specs.Laws.{ConstantsStayOn}

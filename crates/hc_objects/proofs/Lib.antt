@@ -12,3 +12,4 @@ pub mod Saying
 pub mod MadeReady
 pub mod Made
 pub mod Going
+pub mod Storing

@@ -1,6 +1,6 @@
 -- What an operation comes to, of the steps that it is made of.
 use Rattle.std.proofs.Common.{◌≡◌, ℕ, List, Option, refl, sym, ap, subst, inl, inr}
-use Rattle.std.specs.Prelude.{◌⊎◌, Result, Ok, Err, IsErrOf, OnErr, OnOk}
+use Rattle.std.specs.Prelude.{Result, Ok, Err, IsErrOf, OnErr, OnOk}
 use Rattle.hc_board.specs.Trail.{Access}
 use Rattle.hc_heap.specs.Writes.{Trail}
 use Rattle.hc_table.specs.Changes.{Created, Moved}
@@ -10,11 +10,11 @@ use Rattle.hc_modes.specs.Came.{IsMadeLive, IsStill, world_of}
 use Rattle.hc_modes.specs.Laws.{live-before, still-refl}
 use Rattle.hc_modes.specs.State.{IsLive, IsObjects, ObjectsState}
 use Rattle.hc_modes.specs.Validity.{OnlyCells}
-use Rattle.hc_objects.specs.Came.{Came, Followed, FollowedBy, MadeLive, MadeNamed, Moves, MovesOnce, WasMadeLive}
+use Rattle.hc_objects.specs.Came.{Came, Followed, FollowedBy, MadeLive, MadeNamed, Moves, MovesOnce}
 use Rattle.hc_objects.specs.Changes.{ReadiedFor, did_of}
 use Rattle.hc_objects.specs.Laws.{came-world, fit-once, fit_for-once, followed-before, live-after, live-once, named-once, once-moves}
 use Rattle.hc_objects.specs.declared.change.Change.{Change}
-use Rattle.hc_objects.specs.declared.change.Change.TheVariants.{Add, Write, Put, Remove, Link, Lock, Restrict}
+use Rattle.hc_objects.specs.declared.change.Change.TheVariants.{Add, AddBy, Write, Put, Remove, Link, Lock, Restrict}
 use Rattle.hc_objects.proofs.MadeReady.{alone-live, followed-live}
 
 pub live-still : {P : Type 0} (a b : ObjectsState P) → IsStill a b → (o : ℕ) → IsLive a.heap.view.trail o → IsLive b.heap.view.trail o
@@ -55,6 +55,7 @@ module _ {P : Type 0} (went : P → List Access → List Access → P → Type 0
 
   pub ready-once : (a b : ObjectsState P) (o : ℕ) (change : Change) → ReadiedFor went a o change b → MovesOnce went a b
   ready-once a b o (Add p) h = inl h
+  ready-once a b o (AddBy child name value) h = inl h
   ready-once a b o (Write i held) h = fit-once went a b o i held h
   ready-once a b o (Put i p) h = fit_for-once went a b o i p h
   ready-once a b o (Remove i) h = inl h
@@ -77,6 +78,7 @@ module _ {P : Type 0} (went : P → List Access → List Access → P → Type 0
   -- an object was made live, and ready for a change, and was changed
   pub change-made : (a s t b : ObjectsState P) (o : ℕ) (change : Change) → MadeLive went a o s → ReadiedFor went s o change t → Followed went t (did_of o change) b → Came went a (did_of o change) b
   change-made a s t b o (Add p) live ready done = record { begin = a; still = still-refl a; ready = t; readied = live-after went a s t o live ready; done = done }
+  change-made a s t b o (AddBy child name value) live ready done = record { begin = a; still = still-refl a; ready = t; readied = live-after went a s t o live ready; done = done }
   change-made a s t b o (Write i held) live ready done = record { begin = a; still = still-refl a; ready = t; readied = (s, live, ready); done = done }
   change-made a s t b o (Put i p) live ready done = record { begin = a; still = still-refl a; ready = t; readied = (s, live, ready); done = done }
   change-made a s t b o (Remove i) live ready done = record { begin = a; still = still-refl a; ready = t; readied = live-after went a s t o live ready; done = done }

@@ -1,23 +1,18 @@
 -- An object made ready, and the cells that follow.
-use Rattle.std.proofs.Common.{◌≡◌, ◌≢◌, ℕ, Bool, true, false, true≢false, List, Option, Some, None, length, refl, sym, ap, ◌∙◌, subst, inl, inr}
-use Rattle.std.specs.Prelude.{◌⊎◌, IfSome, IsSomeAnd, IsTrue, OnErr, OnOk, Result, Ok, Err}
+use Rattle.std.proofs.Common.{ℕ, List, sym, ap, ◌∙◌, subst, inl, inr}
+use Rattle.std.specs.Prelude.{OnErr, OnOk, Result, Ok, Err}
 use Rattle.hc_board.specs.Trail.{Access}
 use Rattle.hc_layout.specs.declared.words.MapBits.{MapBits}
-use Rattle.hc_value.specs.declared.field.Detail.{Detail}
 use Rattle.hc_value.specs.declared.prop.Held.{Held}
 use Rattle.hc_value.specs.declared.prop.Prop.{Prop}
-use Rattle.hc_value.specs.Field.{in_place_of, join_of}
-use Rattle.hc_heap.specs.Readings.{bits_in, map_in}
-use Rattle.hc_heap.specs.Writes.{Trail}
-use Rattle.hc_descs.specs.Entries.{detail_at}
 use Rattle.hc_table.specs.Changes.{Moved}
 use Rattle.hc_table.specs.World.{World}
-use Rattle.hc_modes.specs.Admitting.{FitsField, held_rep}
-use Rattle.hc_modes.specs.Came.{IsMadeFit, IsMadeFitFor, IsMadeLive, IsOther, IsStill, Moves, world_of}
+use Rattle.hc_modes.specs.Admitting.{FitsField}
+use Rattle.hc_modes.specs.Came.{IsMadeFitFor, IsMadeLive, IsOther, IsStill, Moves, world_of}
 use Rattle.hc_modes.specs.Laws.{came-world, fit-after, fit-before, fit-moves, fit_for-after, fit_for-before, fit_for-moves, live-after, live-before, live-moves}
 use Rattle.hc_modes.specs.State.{IsLive, ObjectsState}
 use Rattle.hc_modes.specs.Validity.{OnlyCells}
-use Rattle.hc_objects.specs.Came.{FollowedBy, MadeFit, MadeFitFor, MadeLive}
+use Rattle.hc_objects.specs.Came.{FollowedBy, MadeFit, MadeFitFor}
 use Rattle.hc_objects.specs.Changes.{IsReadied}
 use Rattle.hc_objects.specs.declared.change.Ready.{Ready}
 use Rattle.hc_objects.specs.declared.change.Ready.TheVariants.{Live, Fit, FitFor}

@@ -1,25 +1,23 @@
 -- What a valid cell says over several steps.
-use Rattle.std.proofs.Common.{◌≡◌, ℕ, zero, suc, ◌<◌, Bool, true, false, cond, eqb, eq-eqb, true≢false, List, [], ◌∷◌, Option, Some, None, IsSome, length, refl, sym, ap, ◌∙◌, subst, arith, inl}
-use Rattle.std.specs.Prelude.{IsSomeAnd, IsTrue}
+use Rattle.std.proofs.Common.{◌≡◌, ℕ, zero, suc, ◌<◌, Bool, true, false, cond, eqb, eq-eqb, true≢false, List, ◌∷◌, Option, Some, None, IsSome, length, refl, sym, ap, ◌∙◌, subst, arith, inl}
+use Rattle.std.specs.Prelude.{IsSomeAnd}
 use Rattle.hc_board.specs.Trail.{Access}
 use Rattle.hc_layout.specs.declared.words.CellWord.{CellWord}
-use Rattle.hc_heap.specs.Readings.{map_in, validity_in}
+use Rattle.hc_heap.specs.Readings.{validity_in}
 use Rattle.hc_heap.specs.Writes.{Trail}
-use Rattle.hc_cells.specs.Chains.{chain_among, has, passes, proto_at}
+use Rattle.hc_cells.specs.Chains.{chain_among, has, proto_at}
 use Rattle.hc_table.specs.Changes.{Did}
-use Rattle.hc_table.specs.World.{object, props_at}
 use Rattle.hc_slots.specs.Cases.{some-and}
 use Rattle.hc_slots.specs.Meaning.{Dictionary}
-use Rattle.hc_modes.specs.Came.{world_of}
 use Rattle.hc_modes.specs.Laws.{with_loads}
 use Rattle.hc_modes.specs.Meaning.{kept_of}
 use Rattle.hc_modes.specs.State.{IsObjects, ObjectsState}
 use Rattle.hc_modes.specs.Validity.{CellFollows, StaysPut, goes_through, protos_of}
-use Rattle.hc_objects.specs.Came.{Came, Followed, IsStill, SaysStill}
+use Rattle.hc_objects.specs.Came.{Came, IsStill, SaysStill}
 use Rattle.hc_objects.specs.Laws.{by-steps, followed-shape}
 use Rattle.hc_objects.specs.State.{IsStanding}
 use Rattle.hc_objects.proofs.Beside.{chain-there}
-use Rattle.hc_objects.proofs.Told.{Told, count-told, count-world, fast-map, slow-mapless, slow-there}
+use Rattle.hc_objects.proofs.Told.{Told, count-told, count-world, fast-map, slow-mapless}
 
 -- A chain whose objects keep their prototypes
 

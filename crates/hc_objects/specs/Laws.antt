@@ -1,15 +1,16 @@
 -- The laws of what was done: nothing before it and after it changes nothing, and the tables after it are those that it says.
-use Rattle.std.proofs.Common.{◌≡◌, ℕ, ◌+◌, ◌≤◌, List, Option, Some, None, refl, ap, ◌∙◌, subst, sym, arith, inl, inr}
+use Rattle.std.proofs.Common.{◌≡◌, ℕ, ◌+◌, ◌≤◌, List, Option, Some, None, ap, ◌∙◌, subst, sym, arith, inl, inr}
 use Rattle.std.specs.Prelude.{◌⊎◌, IsSomeAnd, IsTrue}
 use Rattle.hc_board.specs.Trail.{Access}
 use Rattle.hc_layout.specs.declared.words.CellWord.{CellWord}
 use Rattle.hc_value.specs.declared.prop.Held.{Held}
 use Rattle.hc_value.specs.declared.prop.Prop.{Prop}
 use Rattle.hc_heap.specs.Readings.{validity_in}
+use Rattle.hc_heap.specs.Writes.{Trail}
 use Rattle.hc_table.specs.Changes.{Did, Nothing, Moved, Created, Added, Wrote, Reconfigured, Removed, Linked, Locked, Restricted, after}
 use Rattle.hc_table.specs.World.{World}
-use Rattle.hc_modes.specs.Laws.{with_loads, still-refl, still-on, came-before as bare-before, came-world as bare-world, came-shape as bare-shape, live-moves as bare-live, fit-moves as bare-fit, fit_for-moves as bare-fit_for}
-use Rattle.hc_modes.specs.State.{ObjectsState}
+use Rattle.hc_modes.specs.Laws.{with_loads, still-refl, still-on, came-before as bare-before, came-world as bare-world, came-shape as bare-shape, live-before as bare-live-before, live-moves as bare-live, fit-moves as bare-fit, fit_for-moves as bare-fit_for}
+use Rattle.hc_modes.specs.State.{IsLive, ObjectsState}
 use Rattle.hc_modes.specs.Validity.{CellFollows, CellsFollow, ChangesOn, OnlyCells, StaysPut}
 use Rattle.hc_modes.specs.Came.{Came as CameBare, IsMadeFit, IsMadeFitFor, IsMadeLive}
 use Rattle.hc_objects.specs.Came.{Came, Effect, Followed, FollowedBy, IsStill, MadeFit, MadeFitFor, MadeLive, MadeNamed, Moves, MovesOnce, Readied, world_of}
@@ -221,6 +222,13 @@ module _ {P : Type 0} (went : P → List Access → List Access → P → Type 0
   pub live-after : (a b c : ObjectsState P) (o : ℕ) → MadeLive went a o b → IsStill b c → MadeLive went a o c
   live-after a b c o (inl still) y = inl (still.0, still-on a b c still.1 y)
   live-after a b c o (inr was) y = inr (record { dead = was.dead; followed = followed-after (λ s t. IsMadeLive went s o t) a b c was.followed y })
+
+  pub live-before : (a b c : ObjectsState P) (o : ℕ) → IsStill a b → MadeLive went b o c → MadeLive went a o c
+  live-before a b c o x (inl still) = inl (subst (λ (t : Trail). IsLive t o) (ap (λ (s : ObjectsState P). s.heap.view.trail) x.is) still.0, still-on a b c x still.1)
+  live-before a b c o x (inr was) = inr (record {
+    dead = λ live. was.dead (subst (λ (t : Trail). IsLive t o) (sym (ap (λ (s : ObjectsState P). s.heap.view.trail) x.is)) live);
+    followed = followed-before (λ s t. IsMadeLive went s o t) a b c (λ s h. bare-live-before went a b s o x h) x was.followed;
+  })
 
   -- What holds from the beginning of each step to its end, and goes on from one to the next, holds over all that was done. Each such
   -- relation counts its steps: one for moves, and two for an operation

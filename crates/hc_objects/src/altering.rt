@@ -57,6 +57,7 @@ pub(crate) fn alters<P: Pace>(inside: &mut Inside<P>, o: u32, change: &Change) -
 {
     match change {
         Change::Add(_) => true,
+        Change::AddBy(..) => true,
         Change::Write(i, held) => !holds(inside.prop_at(o, *i), *held),
         Change::Put(i, p) => !is_same(inside.prop_at(o, *i), *p),
         Change::Remove(_) => true,

@@ -1,7 +1,7 @@
 //! Changes of one object, which is made ready before, and the cells that follow.
-ghost use Rattle.std.specs.Prelude.{◌≡◌, ◌<◌, length, OnOk, OnErr};
+ghost use Rattle.std.specs.Prelude.{◌≡◌, ◌<◌, length, IsOk, OnOk, OnErr};
 ghost use Rattle.hc_objects.specs.Came.{Came, Followed, Moves, MovesOnce, world_of};
-ghost use Rattle.hc_objects.specs.Changes.{IsReadyFor, MayChange, did_of};
+ghost use Rattle.hc_objects.specs.Changes.{IsPlain, IsReadyFor, IsSure, MayChange, did_of};
 
 use crate::change::Change;
 use crate::following::follow;
@@ -18,12 +18,13 @@ use hc_value::Memory;
 
 impl<P: Pace> Objects<P> {
     // Changes an object that is ready for it, and what its cells say with it.
-    fn change(&mut self, o: u32, change: Change) -> Result<(), Memory>
+    pub(crate) fn change(&mut self, o: u32, change: Change) -> Result<(), Memory>
         requires object { o < length (world_of self.old) }
         requires may { MayChange (world_of self.old) o change }
-        requires ready { IsReadyFor (world_of self.old) self.old.heap.view.trail o change }
+        requires ready { IsReadyFor (world_of self.old) self.old.heap.view o change }
         ensures did { OnOk result (Followed P.went self.old (did_of o change) self.new) }
         ensures moved { OnErr result (MovesOnce P.went self.old self.new) }
+        ensures sure { IsSure change → IsOk result }
     {
         chains_are_told::<P>();
         operations_leave_cells::<P>();
@@ -57,6 +58,7 @@ impl<P: Pace> Objects<P> {
     pub(crate) fn apply(&mut self, o: u32, change: Change) -> Result<(), Memory>
         requires object { o < length (world_of self.old) }
         requires may { MayChange (world_of self.old) o change }
+        requires plain { IsPlain change }
         ensures did { OnOk result (Came P.went self.old (did_of o change) self.new) }
         ensures moved { OnErr result (Moves P.went self.old self.new) }
     {

@@ -2,13 +2,15 @@
 ghost use Rattle.std.specs.Prelude.{◌≡◌};
 ghost use Rattle.hc_objects.specs.Changes.{named_by};
 
-use hc_value::{Held, Prop};
+use hc_value::{Held, Prop, Value};
 
 /// A change of one object.
 #[derive(Clone, Copy)]
 pub(crate) enum Change {
     /// The object gets a new last property.
     Add(Prop),
+    /// The object gets a new last property of a name and a value, by this child of its map.
+    AddBy(u32, u32, Value),
     /// The property at a place holds something else.
     Write(u32, Held),
     /// Another property of the same name stands at a place.

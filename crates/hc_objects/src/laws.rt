@@ -86,3 +86,9 @@ pub fn cells_stand_alone<P: Pace>()
     ensures facts { (a b : ObjectsState P) → OnlyCells P.went a b → FactsStay a.heap.view.shape a.heap.view.trail b.heap.view.trail }
     ensures calm { (a b : ObjectsState P) → OnlyCells P.went a b → AreCalm a.heap.view.trail → AreCalm b.heap.view.trail }
 {}
+
+/// Loads that come first change nothing of what is said then: an object is made live, or an operation is done, as if they weren't.
+pub fn loads_come_first<P: Pace>()
+    ensures live { (a s b : ObjectsState P) (o : ℕ) → IsStill a s → MadeLive P.went s o b → MadeLive P.went a o b }
+    ensures came { (a s b : ObjectsState P) (did : Did) → IsStill a s → Came P.went s did b → Came P.went a did b }
+{}

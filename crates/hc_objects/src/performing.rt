@@ -1,12 +1,12 @@
 //! A change of one object, and whether anything changed there that cells rest on.
-ghost use Rattle.std.specs.Prelude.{◌≡◌, ◌≢◌, ◌⊎◌, ℕ, ◌<◌, IsTrue, true, false, None, Some, IfSome, OnOk, OnErr, is_none, length};
+ghost use Rattle.std.specs.Prelude.{◌≡◌, ◌≢◌, ◌⊎◌, ℕ, ◌<◌, IsTrue, true, false, None, Some, IfSome, IsOk, OnOk, OnErr, is_none, length};
 ghost use Rattle.hc_heap.specs.Readings.{map_in};
 ghost use Rattle.hc_modes.specs.Admitting.{IsHonest};
 ghost use Rattle.hc_modes.specs.Came.{Came, Moves};
 ghost use Rattle.hc_modes.specs.Validity.{StaysPut};
 ghost use Rattle.hc_table.specs.Changes.{IsThere};
 ghost use Rattle.hc_objects.specs.Came.{IsStill, world_of};
-ghost use Rattle.hc_objects.specs.Changes.{AltersSlow, IsReadyFor, MayChange, did_of};
+ghost use Rattle.hc_objects.specs.Changes.{AltersSlow, IsReadyFor, IsSure, MayChange, did_of};
 
 use crate::altering::alters;
 use crate::change::Change;
@@ -25,14 +25,19 @@ pub(crate) struct Outcome {
 fn perform<P: Pace>(inside: &mut Inside<P>, o: u32, change: Change) -> Result<(), Memory>
     requires object { o < length (world_of inside.old) }
     requires may { MayChange (world_of inside.old) o change }
-    requires ready { IsReadyFor (world_of inside.old) inside.old.heap.view.trail o change }
+    requires ready { IsReadyFor (world_of inside.old) inside.old.heap.view o change }
     requires honest { IsHonest inside.old.heap.view.trail }
     ensures did { OnOk result (Came P.went inside.old (did_of o change) inside.new) }
     ensures moved { OnErr result (Moves P.went inside.old inside.new) }
+    ensures sure { IsSure change → IsOk result }
     ensures maps { OnErr result ((q : ℕ) → q ≢ o → map_in inside.new.heap.view.trail q ≡ map_in inside.old.heap.view.trail q) }
 {
     match change {
         Change::Add(p) => inside.add_property(o, p),
+        Change::AddBy(child, name, value) => {
+            inside.add_by(o, child, name, value);
+            Ok(())
+        }
         Change::Write(i, held) => {
             inside.write_property(o, i, held);
             Ok(())
@@ -103,10 +108,11 @@ pub(crate) fn change_object<P: Pace>(
 ) -> Outcome
     requires object { o < length (world_of inside.old) }
     requires may { MayChange (world_of inside.old) o change }
-    requires ready { IsReadyFor (world_of inside.old) inside.old.heap.view.trail o change }
+    requires ready { IsReadyFor (world_of inside.old) inside.old.heap.view o change }
     requires honest { IsHonest inside.old.heap.view.trail }
     ensures did { OnOk result.done (Came P.went inside.old (did_of o change) inside.new) }
     ensures want { OnErr result.done (Moves P.went inside.old inside.new) }
+    ensures sure { IsSure change → IsOk result.done }
     ensures maps { OnErr result.done ((q : ℕ) → q ≢ o → map_in inside.new.heap.view.trail q ≡ map_in inside.old.heap.view.trail q) }
     ensures moved { IfSome result.moved (λ q. (q ≡ o) × (StaysPut inside.old inside.new o → ⊥)) }
     ensures kept { marked ≡ true → result.moved ≡ None → StaysPut inside.old inside.new o }

@@ -9,7 +9,7 @@ ghost use Rattle.hc_modes.specs.State.{IsLive};
 ghost use Rattle.hc_modes.specs.Validity.{StaysPut};
 ghost use Rattle.hc_table.specs.Changes.{IsThere};
 ghost use Rattle.hc_objects.specs.Came.{FollowedBy, IsStill, MadeLive, MadeNamed, Moves, MovesOnce, world_of};
-ghost use Rattle.hc_objects.specs.Changes.{IsLiveFor, IsReadied, IsReadyFor, MayChange, MayReady, ReadiedFor};
+ghost use Rattle.hc_objects.specs.Changes.{IsLiveFor, IsPlain, IsReadied, IsReadyFor, MayChange, MayReady, ReadiedFor};
 
 use crate::change::{Change, Ready};
 use crate::following::follow;
@@ -144,9 +144,10 @@ impl<P: Pace> Objects<P> {
     pub(crate) fn ready_for(&mut self, o: u32, change: &Change) -> Result<(), Memory>
         requires object { o < length (world_of self.old) }
         requires may { MayChange (world_of self.old) o change.now }
+        requires plain { IsPlain change.now }
         requires live { IsLive self.old.heap.view.trail o }
         ensures readied { OnOk result (ReadiedFor P.went self.old o change.now self.new) }
-        ensures ready { OnOk result (IsReadyFor (world_of self.new) self.new.heap.view.trail o change.now) }
+        ensures ready { OnOk result (IsReadyFor (world_of self.new) self.new.heap.view o change.now) }
         ensures moved { OnErr result (MovesOnce P.went self.old self.new) }
     {
         match change {

@@ -95,3 +95,18 @@ fn an_object_is_slow_where_its_next_map_has_no_room(rt: HostRuntime) -> Result<(
     expect_names(&rt, &mut objects, 0, 4);
     Ok(())
 }
+
+// How many slots were handed out, of 256, after an object got as many properties.
+const HANDED_OUT: [u32; 10] = [0, 4, 4, 4, 4, 12, 12, 12, 12, 28];
+
+#[test]
+fn slots_are_handed_out_where_an_object_lacks_one(rt: HostRuntime) -> Result<(), Fail> {
+    let mut objects = Objects::new(rt.alloc(), ROOMY, Free)?;
+    assert!(rt; objects.slot_room(ROOMY) == 256);
+    assert!(rt; Tables::create(&mut objects, None) == Ok(0));
+    for (name, slots) in HANDED_OUT.iter().copied().enumerate() {
+        assert!(rt; objects.used(Region::Slots) == slots, "row {name}");
+        give(&rt, &mut objects, 0, name as u32)?;
+    }
+    Ok(())
+}

@@ -2,6 +2,7 @@ use Rattle.std.proofs.Common.{refl, sym, subst}
 use Rattle.std.specs.Prelude.{OnOk}
 use Rattle.std.proofs.lemmas.Result.{on_ok_weaker}
 use Rattle.hc_table.specs.Changes.{Added, Locked, Reconfigured, Removed, Restricted, Wrote}
+use Rattle.hc_modes.specs.Admitting.{added}
 use Rattle.hc_modes.specs.Came.{Came}
 use Rattle.hc_objects.specs.Changes.{did_of}
 use Rattle.hc_objects.specs.declared.change.Change.{Change}
@@ -12,6 +13,11 @@ pub returns-in-Add-clause-did : goal.returns-in-Add-clause-did
 returns-in-Add-clause-did g c =
     let it = effect-alone g.P.Pace.went c.args.inside.now c.add_property.new.self (Added c.args.o c.in-Add.p) refl in
     subst (λ (k : Change). OnOk c.add_property.result (Came g.P.Pace.went c.args.inside.now (did_of c.args.o k) c.add_property.new.self)) (sym c.in-Add.is) (on_ok_weaker c.add_property.result it c.add_property.ensures.did)
+
+pub returns-in-AddBy-clause-did : goal.returns-in-AddBy-clause-did
+returns-in-AddBy-clause-did g c =
+    let it = effect-alone g.P.Pace.went c.args.inside.now c.add_by.new.self (Added c.args.o (added c.in-AddBy.name c.in-AddBy.value)) refl in
+    subst (λ (k : Change). Came g.P.Pace.went c.args.inside.now (did_of c.args.o k) c.add_by.new.self) (sym c.in-AddBy.is) (it c.add_by.ensures.did)
 
 pub returns-in-Write-clause-did : goal.returns-in-Write-clause-did
 returns-in-Write-clause-did g c =

@@ -18,6 +18,7 @@ use Rattle.hc_modes.specs.Meaning.{kept_of}
 use Rattle.hc_modes.specs.Modes.{add_need}
 use Rattle.hc_modes.specs.State.{IsLive, ObjectsState}
 use Rattle.hc_modes.proofs.Adding.{call-ready, call-sound, call-world, call-room, call-needs, call-protos}
+use Rattle.hc_modes.proofs.Known.{call-known}
 use Rattle.hc_modes.proofs.Shown.{fast-has}
 use Rattle.hc_modes.specs.Filling.{GrowthKills, IsMoved}
 use Rattle.hc_modes.specs.Rest.{MarksBut}
@@ -44,6 +45,13 @@ grow_object-requires-clause-live g c =
     let same : c.gate.new.self.view ≡ c.self.inside.heap.view = ap (λ (s : HeapState g.row.P.Denot). s.view) c.gate.ensures.new ∙ ap (λ (s : HeapState g.row.P.Denot). s.view) c.map_of-map.ensures.new in
     subst (λ (w : View). (bits_in w.trail c.map_of-map.result).deprecated ≡ false) (sym same)
     (subst (λ (s : ObjectsState g.row.P.Denot). IsLive s.heap.view.trail c.args.o) (sym c.self.view_is) c.requires.live c.map_of-map.result c.map_of-map.ensures.map)
+
+pub grow_object-requires-clause-known : goal.grow_object-requires-clause-known
+grow_object-requires-clause-known g c =
+    let read : c.map_of-map.new.h.view ≡ c.self.inside.heap.view = ap (λ (s : HeapState g.row.P.Denot). s.view) c.map_of-map.ensures.new in
+    let again : c.gate.new.self.view ≡ c.map_of-map.new.h.view = ap (λ (s : HeapState g.row.P.Denot). s.view) c.gate.ensures.new in
+    let gate : gate_in c.self.inside.heap.view.trail c.map_of-map.result ≡ Some c.unwrap-gate.result = ap (λ (w : View). gate_in w.trail c.map_of-map.result) (sym read) ∙ (sym c.gate.ensures.value ∙ c.unwrap-gate.ensures) in
+    call-known _ _ c.args.o c.args.p c.self.view_is c.self.invariant c.requires.object c.requires.fast c.gate.new.self.view c.map_of-map.result c.unwrap-gate.result (again ∙ read) c.map_of-map.ensures.map gate c.args.known c.requires.known
 
 pub grow_object-requires-clause-open : goal.grow_object-requires-clause-open
 grow_object-requires-clause-open g c =

@@ -1,4 +1,4 @@
-use Rattle.std.proofs.Common.{ℕ, Option, List, Bool, length, sym, ap, ◌∙◌, subst, arith}
+use Rattle.std.proofs.Common.{ℕ, Option, List, length, sym, ap, ◌∙◌, subst, arith}
 use Rattle.hc_objects.proofs.Told.{count-told}
 use Rattle.hc_cells.specs.Watched.{AreWatched}
 use Rattle.hc_layout.specs.declared.shape.Shape.{Shape}

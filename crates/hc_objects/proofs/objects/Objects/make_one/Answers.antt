@@ -3,7 +3,6 @@ use Rattle.std.specs.Prelude.{IfSome}
 use Rattle.hc_heap.specs.Readings.{map_in}
 use Rattle.hc_table.specs.Changes.{Created}
 use Rattle.hc_modes.specs.Came.{Came, IsStill, world_of}
-use Rattle.hc_modes.specs.Laws.{still-on}
 use Rattle.hc_modes.specs.State.{IsObjects, ObjectsState}
 use Rattle.hc_objects.specs.State.{IsWatching}
 use Rattle.hc_objects.proofs.Applied.{AreKnown, applied-cells, applied-done, applied-longer, applied-room, applied-size, applied-there, applied-told, applied-watched, is-made, still-came, there-longer}

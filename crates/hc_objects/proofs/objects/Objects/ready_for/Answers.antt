@@ -12,7 +12,7 @@ returns-in-Write-clause-readied g c = subst (λ (k : Change). OnOk c.ready.resul
 
 pub returns-in-Write-clause-ready : goal.returns-in-Write-clause-ready
 returns-in-Write-clause-ready g c =
-    subst (λ (k : Change). OnOk c.ready.result (IsReadyFor (world_of c.ready.new.self) c.ready.new.self.heap.view.trail c.args.o k)) (sym c.in-Write.is)
+    subst (λ (k : Change). OnOk c.ready.result (IsReadyFor (world_of c.ready.new.self) c.ready.new.self.heap.view c.args.o k)) (sym c.in-Write.is)
     (on_ok_weaker c.ready.result (λ f. followed-fits g.P.Pace.went c.args.self.now c.ready.new.self c.args.o c.in-Write.i c.in-Write.held f) c.ready.ensures.readied)
 
 pub returns-in-Put-clause-readied : goal.returns-in-Put-clause-readied
@@ -20,5 +20,5 @@ returns-in-Put-clause-readied g c = subst (λ (k : Change). OnOk c.ready-in-Put.
 
 pub returns-in-Put-clause-ready : goal.returns-in-Put-clause-ready
 returns-in-Put-clause-ready g c =
-    subst (λ (k : Change). OnOk c.ready-in-Put.result (IsReadyFor (world_of c.ready-in-Put.new.self) c.ready-in-Put.new.self.heap.view.trail c.args.o k)) (sym c.in-Put.is)
+    subst (λ (k : Change). OnOk c.ready-in-Put.result (IsReadyFor (world_of c.ready-in-Put.new.self) c.ready-in-Put.new.self.heap.view c.args.o k)) (sym c.in-Put.is)
     (on_ok_weaker c.ready-in-Put.result (λ f other. followed-fits-for g.P.Pace.went c.args.self.now c.ready-in-Put.new.self c.args.o c.in-Put.i c.in-Put.p f other) c.ready-in-Put.ensures.readied)
