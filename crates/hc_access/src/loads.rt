@@ -38,7 +38,7 @@ pub fn load<P: Pace>(
     ensures sites { sites.new ≡ with_events sites.old s (load_events objects.old sites.old s o name) }
     ensures asked { Asked P.went objects.old objects.new }
     ensures good { AreGood objects.new sites.new }
-    ensures loads { result.by_cache ≡ true → OnlyLoads 20 objects.old.heap.desk objects.new.heap.desk }
+    ensures loads { result.by_cache ≡ true → OnlyLoads 16 objects.old.heap.desk objects.new.heap.desk }
 {
     let Some(map) = objects.map_of(o) else {
         return Accessed {

@@ -1,4 +1,4 @@
-//! Tests of dependencies and of the use of plans, over a board that is written by hand.
+//! Tests of dependencies and of the use of plans, over a board that is written by hand, and of what becomes of outcomes and plans.
 #![tactic(auto)]
 
 #[cfg(test)]
@@ -7,5 +7,7 @@ mod answers;
 mod board;
 #[cfg(test)]
 mod deps;
+#[cfg(test)]
+mod installed;
 #[cfg(test)]
 mod verdicts;

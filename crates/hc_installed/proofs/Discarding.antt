@@ -4,14 +4,14 @@ use Rattle.std.specs.Prelude.{option_and_then}
 use Rattle.hc_layout.specs.declared.shape.Shape.{Shape}
 use Rattle.hc_plan.specs.declared.deps.Dep.{Dep}
 use Rattle.hc_plan.specs.declared.plan.Plan.{Plan}
-use Rattle.hc_sites.specs.Events.{discarded}
+use Rattle.hc_sites.specs.Events.{Event, noted, forgotten, filled, installed, discarded}
 use Rattle.hc_sites.specs.State.{after_event, with_event}
 use Rattle.hc_sites.specs.declared.state.SiteState.{SiteState}
 use Rattle.hc_deps.specs.Verdicts.{IsFirstSite, IsNextBroken}
 use Rattle.hc_report.specs.declared.line.Line.{Line}
 use Rattle.hc_report.specs.declared.line.Line.TheVariants.{Discard}
 use Rattle.hc_installed.specs.Discards.{broken_in, broken_by, unless_broken, unbroken_sites, discard_line, lines_from, one_plan, plan_count}
-use Rattle.hc_installed.specs.Laws.{AreUnbroken, PlansAreFew}
+use Rattle.hc_installed.specs.Laws.{AreUnbroken, InstallsNone, NewSitesCountNone, OtherEventsAddNoPlan, PlansAreFew}
 use Rattle.hc_installed.proofs.Lists.{none-some}
 use Rattle.hc_installed.proofs.Tests.{broken_at, found-at, none-at}
 
@@ -213,3 +213,23 @@ pub plans-few : PlansAreFew
 unfolding plan_count
 plans-few [] = omega arith
 plans-few (x ∷ xs) = let one = at-most x.plan in let rest = plans-few xs in omega (arith, one, rest)
+
+-- Other events, and new sites
+
+other-one : (state : SiteState) (event : Event) → InstallsNone event → one_plan (after_event state event).plan ≤ one_plan state.plan
+other-one state (noted map) h = omega arith
+other-one state (forgotten map) h = omega arith
+other-one state (filled entry) h = omega arith
+other-one state (installed plan) h = absurd h
+other-one state discarded h = omega arith
+
+pub events-count : OtherEventsAddNoPlan
+unfolding plan_count
+events-count [] site event h = omega arith
+events-count (x ∷ xs) zero event h = let one = other-one x event h in omega (arith, one)
+events-count (x ∷ xs) (suc site) event h = let rest = events-count xs site event h in omega (arith, rest)
+
+pub new-count : NewSitesCountNone
+unfolding plan_count
+new-count [] what = refl
+new-count (x ∷ xs) what = ap (λ (n : ℕ). one_plan x.plan + n) (new-count xs what)

@@ -28,7 +28,7 @@ use Rattle.hc_soundness.specs.Meaning.{Dictionary}
 use Rattle.hc_soundness.specs.Rest.{IsRest}
 use Rattle.hc_installed.specs.Discards.{broken_by, unless_broken, unbroken_sites}
 use Rattle.hc_installed.specs.Installed.{AreInstalled, HasInstalled, IsInstalled}
-use Rattle.hc_installed.specs.Laws.{AreUnbroken, InstallsNone, OtherEventsKeepPlans}
+use Rattle.hc_installed.specs.Laws.{AreUnbroken, InstallsNone, NewSitesHaveNoPlan, OtherEventsKeepPlans}
 use Rattle.hc_installed.proofs.Discarding.{are-unbroken}
 use Rattle.hc_installed.proofs.Lists.{all-to, if-both}
 use Rattle.hc_installed.proofs.Tests.{breaks-first, broken_at, none-broken}
@@ -116,3 +116,7 @@ pub events-keep : OtherEventsKeepPlans
 events-keep s t [] site event other h = tt
 events-keep s t (x ∷ xs) zero event other h = (event-keeps s t x event other h.0, h.1)
 events-keep s t (x ∷ xs) (suc site) event other h = (h.0, events-keep s t xs site event other h.1)
+
+pub new-keeps : NewSitesHaveNoPlan
+new-keeps s t [] what h = (tt, tt)
+new-keeps s t (x ∷ xs) what h = (h.0, new-keeps s t xs what h.1)

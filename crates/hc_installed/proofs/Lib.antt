@@ -4,3 +4,5 @@ mod Discarding
 mod Keeping
 mod Settling
 mod Resting
+mod Answering
+mod Applying

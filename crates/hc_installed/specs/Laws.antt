@@ -9,7 +9,10 @@ use Rattle.hc_layout.specs.declared.shape.Shape.{Shape}
 use Rattle.hc_heap.specs.Kept.{GoesOn, at}
 use Rattle.hc_heap.specs.States.{Goes, IsDesk, IsHeap, View}
 use Rattle.hc_heap.specs.Writes.{Trail}
+use Rattle.hc_value.specs.declared.value.Value.{Value}
 use Rattle.hc_facts.specs.Constants.{ConstantsStay}
+use Rattle.hc_modes.specs.Came.{IsStill}
+use Rattle.hc_modes.specs.State.{IsLive, ObjectsState}
 use Rattle.hc_plan.specs.declared.case.Site.{Site}
 use Rattle.hc_plan.specs.declared.deps.Dep.{Dep}
 use Rattle.hc_plan.specs.declared.plan.Plan.{Plan}
@@ -27,6 +30,7 @@ use Rattle.hc_soundness.specs.Breaks.{breaks}
 use Rattle.hc_soundness.specs.Meaning.{Dictionary}
 use Rattle.hc_soundness.specs.Rest.{IsRest}
 use Rattle.hc_soundness.specs.Right.{IsRight}
+use Rattle.hc_installed.specs.Answers.{IsHit, IsMiss}
 use Rattle.hc_installed.specs.Installed.{AreInstalled, AreResting}
 use Rattle.hc_installed.specs.Discards.{broken_by, discard_lines, holds_still, plan_count, unbroken_sites}
 use Rattle.hc_installed.specs.Settles.{IsNotRefused}
@@ -114,11 +118,34 @@ InstallsNone discarded = ⊤
 abbrev pub OtherEventsKeepPlans : Type 0
 OtherEventsKeepPlans = (s : Shape) (t : Trail) (sites : List SiteState) (site : ℕ) (event : Event) → InstallsNone event → AreInstalled s t sites → AreInstalled s t (with_event sites site event)
 
+-- and no more sites have one
+abbrev pub OtherEventsAddNoPlan : Type 0
+OtherEventsAddNoPlan = (sites : List SiteState) (site : ℕ) (event : Event) → InstallsNone event → plan_count (with_event sites site event) ≤ plan_count sites
+
 -- and with one site more, at which nothing happened yet
 abbrev pub NewSitesHaveNoPlan : Type 0
 NewSitesHaveNoPlan = (s : Shape) (t : Trail) (sites : List SiteState) (what : Site) → AreInstalled s t sites → AreInstalled s t (sites ++ new_site what ∷ [])
+
+-- no more sites have a plan then
+abbrev pub NewSitesCountNone : Type 0
+NewSitesCountNone = (sites : List SiteState) (what : Site) → plan_count (sites ++ new_site what ∷ []) ≡ plan_count sites
 
 -- at rest, each installed plan is right
 abbrev pub InstalledAreRight : Type 0
 InstalledAreRight = (v : View) (kept : List (Option Dictionary)) (sites : List SiteState) → IsRest v kept → AreInstalled v.shape v.trail sites
     → AllByRecursion (λ (state : SiteState). IfSome state.plan (IsRight v.trail kept)) sites
+
+-- Answers
+
+-- at rest, a site's plan answers for no receiver whose map is deprecated
+abbrev pub HitsAreLive : Type 0 → Type 0
+HitsAreLive P = (a : ObjectsState P) (sites : List SiteState) (s o number : ℕ) (value : Option Value) → IsRest a.heap.view a.kept → IsDesk a.heap.view a.heap.desk
+    → AreInstalled a.heap.view.shape a.heap.view.trail sites → IsHit a sites s o value number → IsLive a.heap.view.trail o
+
+-- after loads the same case admits
+abbrev pub HitsStay : Type 0 → Type 0
+HitsStay P = (a b : ObjectsState P) (sites : List SiteState) (s o number : ℕ) (value : Option Value) → IsStill a b → IsHit a sites s o value number → IsHit b sites s o value number
+
+-- or none does
+abbrev pub MissesStay : Type 0 → Type 0
+MissesStay P = (a b : ObjectsState P) (sites : List SiteState) (s o : ℕ) (value : Option Value) → IsStill a b → IsMiss a sites s o value → IsMiss b sites s o value

@@ -1,12 +1,12 @@
 //! What holds of installed plans. The functions do nothing: each has a law as its contract, for a proof that calls it.
-ghost use Rattle.hc_installed.specs.Laws.{BreaksAreFirst, InstalledAreRight, NewSitesHaveNoPlan, OtherEventsKeepPlans, OutcomesStayInstalled, PlansAreFew, PlansStayInstalled, PromptIsNotRefused, QuietBreaksNoPlan, RefusedHadHeld, RestIsNow, RestingStays, TestsAreMeant, UnbrokenAreLeft};
+ghost use Rattle.hc_installed.specs.Laws.{BreaksAreFirst, HitsAreLive, HitsStay, InstalledAreRight, MissesStay, NewSitesCountNone, NewSitesHaveNoPlan, OtherEventsAddNoPlan, OtherEventsKeepPlans, OutcomesStayInstalled, PlansAreFew, PlansStayInstalled, PromptIsNotRefused, QuietBreaksNoPlan, RefusedHadHeld, RestIsNow, RestingStays, TestsAreMeant, UnbrokenAreLeft};
 
-use hc_board::{entry_fits_as_one, longer_keeps_words};
+use hc_board::{entry_fits_as_one, longer_keeps_words, now_is_image};
 use hc_deps::holds_as_the_trail_says;
-use hc_heap::{positions_are_stores, stores_are_writes};
+use hc_heap::{Pace, positions_are_stores, stores_are_writes, words_say};
 use hc_soundness::{
-    borne_is_right, installed_is_borne, quiet_breaks_none, reads_are_told, told_at_once_holds,
-    told_is_borne, told_is_of_site, unbroken_is_borne,
+    borne_is_right, borne_names_live, installed_is_borne, quiet_breaks_none, reads_are_told,
+    told_at_once_holds, told_is_borne, told_is_of_site, unbroken_is_borne,
 };
 
 /// What is tested of a dependency is that it holds, or is on a value.
@@ -90,9 +90,15 @@ pub fn other_events_keep_plans()
     ensures law { OtherEventsKeepPlans }
 {}
 
+/// And no more sites have one.
+pub fn other_events_add_no_plan()
+    ensures law { OtherEventsAddNoPlan }
+{}
+
 /// A new site has no plan.
 pub fn new_sites_have_no_plan()
     ensures law { NewSitesHaveNoPlan }
+    ensures count { NewSitesCountNone }
 {}
 
 /// A plan that a site has is right.
@@ -101,3 +107,19 @@ pub fn installed_are_right()
 {
     borne_is_right();
 }
+
+/// A site's plan answers for no receiver whose map is deprecated.
+pub fn hits_are_live<P: Pace>()
+    ensures law { HitsAreLive P }
+{
+    words_say();
+    stores_are_writes();
+    now_is_image();
+    borne_names_live();
+}
+
+/// What a site's plan answers is the same after loads.
+pub fn loads_keep_answers<P: Pace>()
+    ensures hit { HitsStay P }
+    ensures miss { MissesStay P }
+{}

@@ -143,14 +143,14 @@ loads-on m n a b c x y = record {
 loads-within : (m n : ℕ) (a b : WriterState) → m ≤ n → OnlyLoads m a b → OnlyLoads n a b
 loads-within m n a b le x = record { is = x.is; least = x.least; most = omega (arith, le, x.most) }
 
-loads-cheap : (a ready b : WriterState) → (ready.trail ≡ a.trail → OnlyLoads 2 a ready) → OnlyLoads 20 ready b → b.trail ≡ a.trail → OnlyLoads 24 a b
+loads-cheap : (a ready b : WriterState) → (ready.trail ≡ a.trail → OnlyLoads 2 a ready) → OnlyLoads 16 ready b → b.trail ≡ a.trail → OnlyLoads 24 a b
 loads-cheap a ready b first second same =
-    loads-within 22 24 a b (omega arith) (loads-on 2 20 a ready b (first (sym (ap (λ (w : WriterState). w.trail) second.is) ∙ same)) second)
+    loads-within 18 24 a b (omega arith) (loads-on 2 16 a ready b (first (sym (ap (λ (w : WriterState). w.trail) second.is) ∙ same)) second)
 
 pub loaded : {P : Type 0} (went : P → List Access → List Access → P → Type 0) (a ready b : ObjectsState P) (sites now : List SiteState) (log log_now : List (ℕ × Line)) (s o name : ℕ) (reply : Reply) → site_at sites s ≡ Some (record { op = Load; name = name }) → is_among (length (world_of a)) o ≡ true
     → tables_of ready ≡ tables_of a → AreReadied went a (o ∷ []) ready
     → reply ≡ get_reply (world_of ready) o name → now ≡ with_events sites s (load_events ready sites s o name) → log_now ≡ log ++ line_at ready sites s o → Asked went ready b
-    → (ready.heap.desk.trail ≡ a.heap.desk.trail → OnlyLoads 2 a.heap.desk ready.heap.desk) → (is_cached ready.heap.view.trail sites s o ≡ true → OnlyLoads 20 ready.heap.desk b.heap.desk) → Serves went a sites log (Exec s o None) reply b now log_now
+    → (ready.heap.desk.trail ≡ a.heap.desk.trail → OnlyLoads 2 a.heap.desk ready.heap.desk) → (is_cached ready.heap.view.trail sites s o ≡ true → OnlyLoads 16 ready.heap.desk b.heap.desk) → Serves went a sites log (Exec s o None) reply b now log_now
 loaded {P} went a ready b sites now log log_now s o name reply there among same readied replied sited lined asked first loads =
     accepted-by went a sites s o None ready b now log log_now (record { op = Load; name = name }) reply (says (get_reply (world_of a) o name)) same there
     (ap (λ (x : Bool). if x then says (get_reply (world_of a) o name) else says NoObject) among) among (replied ∙ ap (λ (t : Tables). get_reply t.world o name) same) (asked-tables went ready b asked ∙ same) readied (asked-came went ready b asked) sited lined
