@@ -6,8 +6,6 @@ mod lines;
 #[cfg(test)]
 mod logs;
 #[cfg(test)]
-mod replies;
-#[cfg(test)]
 mod sites;
 #[cfg(test)]
 mod summary;

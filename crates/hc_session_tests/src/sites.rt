@@ -1,3 +1,5 @@
+ghost use Rattle.std.specs.Prelude.{◌<◌, ◌-◌, ◌^◌};
+
 use hc_layout::Shape;
 use hc_report::{Mark, Marks};
 use hc_script::{Command, Op};
@@ -50,19 +52,39 @@ fn check_marks(rt: &impl Abort, marks: &Marks) {
     }
 }
 
+// Declares three sites, from a number on.
+fn declare_three(
+    rt: &impl Abort,
+    session: &mut Session<Scripted>,
+    op: Op,
+    first: u32,
+) -> Result<(), Fail>
+    requires { first < 2 ^ 32 - 3 }
+{
+    for number in first..first + 3 {
+        declare(rt, session, op, number)?;
+    }
+    Ok(())
+}
+
+fn make(rt: &impl Abort, session: &mut Session<Scripted>) -> Result<(), Fail> {
+    let made = session.command(&Command::New(None))?;
+    assert!(rt; matches!(made, Reply::Object(0)));
+    Ok(())
+}
+
+fn perform(rt: &impl Abort, session: &mut Session<Scripted>) -> Result<(), Fail> {
+    declare_three(rt, session, Op::Load, 0)?;
+    make(rt, session)?;
+    declare_three(rt, session, Op::Store, 3)
+}
+
 // Sites are numbered from 0 on, also where two are alike, whatever comes between; each command has its mark, and a site stores
 // nothing.
 #[test]
 fn sites_are_numbered_and_commands_marked(rt: HostRuntime) -> Result<(), Fail> {
     let mut session = Session::scripted(rt.alloc(), Shape::small())?;
-    for number in 0..3u32 {
-        declare(&rt, &mut session, Op::Load, number)?;
-    }
-    let made = session.command(&Command::New(None))?;
-    assert!(rt; matches!(made, Reply::Object(0)));
-    for number in 3..6u32 {
-        declare(&rt, &mut session, Op::Store, number)?;
-    }
+    perform(&rt, &mut session)?;
     check_marks(&rt, session.marks());
     Ok(())
 }
