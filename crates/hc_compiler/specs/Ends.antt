@@ -1,13 +1,10 @@
--- What the log tells of a job that ended.
-use Rattle.std.specs.Prelude.{◌≡◌, ℕ, List, [], ◌∷◌, IsSomeAnd}
+-- How a job ends.
+use Rattle.std.specs.Prelude.{◌≡◌, ℕ, List, IsSomeAnd}
 use Rattle.hc_board.specs.Parts.{EntryFits, MetEntry, reads_of, start_of}
 use Rattle.hc_board.specs.Steps.{newest}
 use Rattle.hc_modes.specs.State.{ObjectsState}
 use Rattle.hc_question.specs.Told.{IsTold}
 use Rattle.hc_question.specs.declared.outcome.Outcome.{Outcome}
-use Rattle.hc_question.specs.declared.outcome.Outcome.TheVariants.{Planned, NoPlan}
-use Rattle.hc_report.specs.declared.line.Line.{Line}
-use Rattle.hc_report.specs.declared.line.Line.TheVariants.{NoPlan as NoPlanLine}
 use Rattle.hc_jobs.specs.declared.table.OpenJob.{OpenJob}
 use Rattle.hc_compiler.specs.Jobs.{Opening, opening_at}
 
@@ -21,8 +18,3 @@ pub record EndsWith {P : Type 0} (s : ObjectsState P) (given : Opening) (entry :
 -- a job that was open ended with this outcome: so its entry says, the last that was met
 abbrev pub HasEnded : {P : Type 0} → List OpenJob → ℕ → Outcome → ObjectsState P → Type 0
 HasEnded jobs j outcome s = IsSomeAnd (opening_at jobs j) (λ given. EndsWith s given (newest s.heap.desk.met) outcome)
-
--- what the log gets of an outcome: a plan has no line of its own here
-abbrev pub lines_of : ℕ → ℕ → Outcome → List (ℕ × Line)
-lines_of at j (Planned plan) = []
-lines_of at j (NoPlan why) = (at, NoPlanLine j why) ∷ []

@@ -1,5 +1,5 @@
 //! Reads that an open job makes at one position, and its end.
-ghost use Rattle.std.specs.Prelude.{◌≡◌, true};
+ghost use Rattle.std.specs.Prelude.{◌≡◌, true, IsSomeAnd};
 ghost use Rattle.hc_board.specs.States.{position_of, renewed};
 ghost use Rattle.hc_planner.specs.Jobs.{IsOwn};
 ghost use Rattle.hc_jobs.specs.Opened.{is_open};
@@ -7,7 +7,7 @@ ghost use Rattle.hc_jobs.specs.Reading.{MakesReads};
 ghost use Rattle.hc_modes.specs.Readers.{HasMet};
 ghost use Rattle.hc_compiler.specs.Calls.{Finishes, Steps};
 ghost use Rattle.hc_compiler.specs.Ends.{HasEnded};
-ghost use Rattle.hc_compiler.specs.Jobs.{AreReading};
+ghost use Rattle.hc_compiler.specs.Jobs.{AreReading, opening_at};
 
 use hc_answers::reads_tell;
 use hc_board::{Reader, one_position, renew_keeps_reads};
@@ -49,12 +49,20 @@ pub(crate) fn step_job<P: Pace>(jobs: &mut JobTable, objects: &mut Objects<P>, j
     jobs.start(job, reader);
 }
 
+/// What a job ended with, and the number of its site.
+#[derive(Drop)]
+pub struct Ended {
+    pub site: u32,
+    pub outcome: Outcome,
+}
+
 /// Lets an open job make all reads that are left, and ends it.
-pub(crate) fn finish_job<P: Pace>(jobs: &mut JobTable, objects: &mut Objects<P>, j: u32) -> Outcome
+pub(crate) fn finish_job<P: Pace>(jobs: &mut JobTable, objects: &mut Objects<P>, j: u32) -> Ended
     requires there { is_open jobs.old j ≡ true }
     requires reading { AreReading objects.old jobs.old }
     ensures finishes { Finishes objects.old jobs.old j objects.new jobs.new }
-    ensures ended { HasEnded jobs.old j result objects.new }
+    ensures ended { HasEnded jobs.old j result.outcome objects.new }
+    ensures site { IsSomeAnd (opening_at jobs.old j) (λ given. result.site ≡ given.site) }
     ensures reading { AreReading objects.new jobs.new }
 {
     others_stay_open();
@@ -67,10 +75,11 @@ pub(crate) fn finish_job<P: Pace>(jobs: &mut JobTable, objects: &mut Objects<P>,
     let reader = read_on(objects, &mut job, reader, Reads::All);
     let finished = job.finish(reader);
     let Finished {
+        site,
         outcome,
         reader,
         ..
     } = finished;
     objects.meet(reader);
-    outcome
+    Ended { site, outcome }
 }

@@ -5,16 +5,15 @@ ghost use Rattle.hc_jobs.specs.Opened.{is_open};
 ghost use Rattle.hc_answers.specs.Laws.{AreWritten};
 ghost use Rattle.hc_compiler.specs.Calls.{Finishes, IsNewJob, Lends, Starts, Steps, TakesBack};
 ghost use Rattle.hc_compiler.specs.Ends.{HasEnded};
-ghost use Rattle.hc_compiler.specs.Jobs.{AreNumbered, AreReading, is_lent, lent_at, no_jobs, open_count};
+ghost use Rattle.hc_compiler.specs.Jobs.{AreNumbered, AreReading, is_lent, lent_at, no_jobs, open_count, opening_at};
 
-use crate::batches::{finish_job, step_job};
+use crate::batches::{Ended, finish_job, step_job};
 use crate::lending::{LentJobs, MOST_JOBS};
 use crate::openings::begin;
 use hc_heap::{Pace, stores_are_writes};
 use hc_jobs::{JobTable, OpenJob, Reads, others_stay_open};
 use hc_layout::Shape;
 use hc_objects::Objects;
-use hc_question::Outcome;
 use hc_sites::Sites;
 use hc_value::Memory;
 use std::alloc::Global;
@@ -118,12 +117,13 @@ impl Compiler {
         step_job(&mut self.jobs, objects, j, n);
     }
 
-    /// Lets an open job make all reads that are left, and ends it.
-    pub fn finish<P: Pace>(&mut self, objects: &mut Objects<P>, j: u32) -> Outcome
+    /// Lets an open job make all reads that are left, and ends it. The answer is what it ended with, and its site.
+    pub fn finish<P: Pace>(&mut self, objects: &mut Objects<P>, j: u32) -> Ended
         requires there { is_open self.old.jobs j ≡ true }
         requires reading { AreReading objects.old self.old.jobs }
         ensures finishes { Finishes objects.old self.old.jobs j objects.new self.new.jobs }
-        ensures ended { HasEnded self.old.jobs j result objects.new }
+        ensures ended { HasEnded self.old.jobs j result.outcome objects.new }
+        ensures site { IsSomeAnd (opening_at self.old.jobs j) (λ given. result.site ≡ given.site) }
         ensures started { self.new.started ≡ self.old.started }
         ensures lent { self.new.lent ≡ self.old.lent }
         ensures reading { AreReading objects.new self.new.jobs }

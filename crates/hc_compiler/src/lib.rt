@@ -6,13 +6,12 @@
 
 mod batches;
 mod compiler;
-mod ends;
 mod feedback;
 mod laws;
 mod lending;
 mod openings;
 
+pub use batches::Ended;
 pub use compiler::Compiler;
-pub use ends::log_end;
 pub use hc_jobs::{OpenJob, Reads};
 pub use laws::jobs_read_on;

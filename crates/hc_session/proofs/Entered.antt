@@ -1,9 +1,8 @@
 -- What commands of jobs are answered.
 use Rattle.std.proofs.Common.{◌≡◌, ℕ, ◌+◌, ◌<◌, ◌≤◌, Ok, Err, Bool, true, false, ◌&&◌, List, [], ◌++◌, length, append-nil, Option, Some, None, get_or, refl, sym, ap, ◌∙◌, subst, arith}
-use Rattle.std.specs.Prelude.{◌⊎◌, IfOk, IfSome, Result, if◌then◌else◌, is_some, option_map, slice_get}
+use Rattle.std.specs.Prelude.{◌⊎◌, IfOk, IfSome, IsSomeAnd, Result, if◌then◌else◌, is_some, option_map, slice_get}
 use Rattle.std.proofs.lemmas.Bool.{le-ltb, lt-ltb}
 use Rattle.std.proofs.lemmas.Option.{slice_get-map, slice_get_cases, slice_get_past}
-use Rattle.hc_board.specs.States.{counted}
 use Rattle.hc_board.specs.Trail.{Access}
 use Rattle.hc_value.specs.declared.memory.Memory.{Memory}
 use Rattle.hc_value.specs.declared.reply.Reply.{Reply}
@@ -11,16 +10,17 @@ use Rattle.hc_value.specs.declared.reply.Reply.TheVariants.{Job, Fine, Finished,
 use Rattle.hc_commands.specs.declared.command.Command.{Command}
 use Rattle.hc_commands.specs.declared.command.Command.TheVariants.{Compile, Step, Finish}
 use Rattle.hc_commands.specs.declared.command.Reads.{Reads as Asked}
-use Rattle.hc_compiler.specs.Calls.{Finishes, Starts, Steps}
-use Rattle.hc_compiler.specs.Ends.{HasEnded, lines_of}
-use Rattle.hc_compiler.specs.Jobs.{Compiling, is_lent, open_count}
+use Rattle.hc_compiler.specs.Calls.{Starts, Steps}
+use Rattle.hc_compiler.specs.Jobs.{Compiling, is_lent, open_count, opening_at}
 use Rattle.hc_jobs.specs.Opened.{is_open}
 use Rattle.hc_modes.specs.State.{ObjectsState}
 use Rattle.hc_plan.specs.declared.case.Site.{Site}
 use Rattle.hc_question.specs.declared.outcome.Outcome.{Outcome}
 use Rattle.hc_report.specs.declared.line.Line.{Line}
 use Rattle.hc_sites.specs.declared.state.SiteState.{SiteState}
-use Rattle.hc_session.specs.Jobs.{Works, reads_for}
+use Rattle.hc_session.specs.Jobs.{HasFinished, Works, reads_for}
+use Rattle.hc_deps.specs.declared.verdict.Verdict.{Verdict}
+use Rattle.hc_session.specs.Plans.{HasSettled}
 use Rattle.hc_session.specs.Plain.{compile_reply, has_room, is_accepted_job, is_of_jobs, is_opened}
 use Rattle.hc_session.specs.Serving.{Attends, Serves, ServesJobs}
 use Rattle.hc_session.specs.Standing.{jobs_of, plain_among}
@@ -62,9 +62,8 @@ module _ {P : Type 0} (a : ObjectsState P) (sites : List SiteState) (c : Compili
     reply_is = ap (λ (r : Reply). Some (says r)) replied;
     lines = [];
     lines_are = sym (append-nil log);
-    works = subst (λ (x : Bool). Works x a sites c (Compile s) a c []) (sym not) refl;
-    refused = λ is. (refl, refl);
-    sites_are = refl;
+    works = subst (λ (x : Bool). Works x a sites c (Compile s) a sites c []) (sym not) refl;
+    refused = λ is. (refl, (refl, refl));
   }
 
   pub compile-nowhere : (s : ℕ) → length sites ≤ s → ServesJobs a sites c log (Compile s) NoSite a sites c log
@@ -93,10 +92,9 @@ module _ {P : Type 0} (a : ObjectsState P) (sites : List SiteState) (c : Compili
         reply_is = ap (λ (r : Reply). Some (says r)) (compile-by s true true (within-there s lt) (room-some room) ∙ ap Job (sym is));
         lines = [];
         lines_are = sym (append-nil log);
-        works = subst (λ (x : Bool). Works x a sites c (Compile s) b now []) (sym accepted)
-            (record { state = site.0; site = site.1; starts = subst (λ (x : Option SiteState). IfSome x (λ state. Starts a c.jobs c.started s state now.jobs)) site.1 starts; started = started; lent = lent; same = same }, refl);
+        works = subst (λ (x : Bool). Works x a sites c (Compile s) b sites now []) (sym accepted)
+            (record { state = site.0; site = site.1; starts = subst (λ (x : Option SiteState). IfSome x (λ state. Starts a c.jobs c.started s state now.jobs)) site.1 starts; started = started; lent = lent; same = same }, refl, refl);
         refused = λ not. let f : ⊥ = cc (accepted, not) in absurd f;
-        sites_are = refl;
       }
 
   -- A job that is open, or not
@@ -109,9 +107,8 @@ module _ {P : Type 0} (a : ObjectsState P) (sites : List SiteState) (c : Compili
         reply_is = ap (λ (x : Bool). Some (says (if x then Fine else NoJob))) there;
         lines = [];
         lines_are = sym (append-nil log);
-        works = subst (λ (x : Bool). Works x a sites c (Step j reads) a c []) (sym there) refl;
-        refused = λ is. (refl, refl);
-        sites_are = refl;
+        works = subst (λ (x : Bool). Works x a sites c (Step j reads) a sites c []) (sym there) refl;
+        refused = λ is. (refl, (refl, refl));
       }
 
   pub finish-missing : (j : ℕ) → is_lent c.lent j ≡ false → is_open c.jobs j ≡ false → ServesJobs a sites c log (Finish j) NoJob a sites c log
@@ -122,9 +119,8 @@ module _ {P : Type 0} (a : ObjectsState P) (sites : List SiteState) (c : Compili
         reply_is = ap (λ (x : Bool). Some (says (if x then Finished else NoJob))) there;
         lines = [];
         lines_are = sym (append-nil log);
-        works = subst (λ (x : Bool). Works x a sites c (Finish j) a c []) (sym there) refl;
-        refused = λ is. (refl, refl);
-        sites_are = refl;
+        works = subst (λ (x : Bool). Works x a sites c (Finish j) a sites c []) (sym there) (refl, refl);
+        refused = λ is. (refl, (refl, refl));
       }
 
   module _ (j : ℕ) (b : ObjectsState P) (now : Compiling) (own : is_lent c.lent j ≡ false) (opened : is_open c.jobs j ≡ true) (started : now.started ≡ c.started) (lent : now.lent ≡ c.lent) where
@@ -137,21 +133,19 @@ module _ {P : Type 0} (a : ObjectsState P) (sites : List SiteState) (c : Compili
       reply_is = ap (λ (x : Bool). Some (says (if x then Fine else NoJob))) there;
       lines = [];
       lines_are = sym (append-nil log);
-      works = subst (λ (x : Bool). Works x a sites c (Step j reads) b now []) (sym there) (record { steps = steps; started = started; lent = lent }, refl);
+      works = subst (λ (x : Bool). Works x a sites c (Step j reads) b sites now []) (sym there) (record { steps = steps; started = started; lent = lent }, refl, refl);
       refused = λ not. let f : ⊥ = cc (there, not) in absurd f;
-      sites_are = refl;
     }
 
-    pub ended : (at : ℕ) (outcome : Outcome) (log_now : List (ℕ × Line)) → at ≡ counted (length a.heap.desk.trail) → Finishes a c.jobs j b now.jobs → HasEnded c.jobs j outcome b → log_now ≡ log ++ lines_of at j outcome → ServesJobs a sites c log (Finish j) Finished b sites now log_now
-    ended at outcome log_now is finishes ends lines = record {
+    pub ended : (outcome : Outcome) (verdict : Verdict) (sites_now : List SiteState) (lines log_now : List (ℕ × Line)) → HasFinished a c j outcome b now → IsSomeAnd (opening_at c.jobs j) (λ given. HasSettled a sites given j outcome verdict b sites_now lines)
+        → log_now ≡ log ++ lines → ServesJobs a sites c log (Finish j) Finished b sites_now now log_now
+    ended outcome verdict sites_now lines log_now finished settled is = record {
       of_jobs = refl;
       reply_is = ap (λ (x : Bool). Some (says (if x then Finished else NoJob))) there;
-      lines = lines_of at j outcome;
-      lines_are = lines;
-      works = subst (λ (x : Bool). Works x a sites c (Finish j) b now (lines_of at j outcome)) (sym there)
-          (outcome, record { finishes = finishes; ended = ends; started = started; lent = lent }, ap (λ (n : ℕ). lines_of n j outcome) is);
+      lines = lines;
+      lines_are = is;
+      works = subst (λ (x : Bool). Works x a sites c (Finish j) b sites_now now lines) (sym there) (outcome, verdict, finished, settled);
       refused = λ not. let f : ⊥ = cc (there, not) in absurd f;
-      sites_are = refl;
     }
 
 -- By results

@@ -1,6 +1,6 @@
 -- What objects keep, whatever is done to them.
-use Rattle.std.proofs.Common.{◌≡◌, ℕ, Ok, Err, List, [], ◌∷◌, append-nil, refl, sym, ap, ◌∙◌, subst, arith}
-use Rattle.std.specs.Prelude.{IfOk, OnErr, Result}
+use Rattle.std.proofs.Common.{◌≡◌, ℕ, Ok, Err, Bool, false, List, [], ◌∷◌, append-nil, refl, sym, ap, ◌∙◌, subst, arith}
+use Rattle.std.specs.Prelude.{IfOk, OnOk, OnErr, Result}
 use Rattle.hc_board.specs.Trail.{Access}
 use Rattle.hc_value.specs.declared.memory.Memory.{Memory}
 use Rattle.hc_value.specs.declared.reply.Reply.{Reply}
@@ -25,12 +25,14 @@ use Rattle.hc_report.specs.declared.line.Line.{Line}
 use Rattle.hc_sites.specs.declared.state.SiteState.{SiteState}
 use Rattle.hc_table.specs.Changes.{Did, Nothing, Moved, Created, Added, Wrote, Reconfigured, Removed, Linked, Locked, Restricted}
 use Rattle.hc_session.specs.Jobs.{HaveMet}
-use Rattle.hc_session.specs.Plain.{act_in}
+use Rattle.hc_session.specs.Plain.{act_in, is_beside}
+use Rattle.hc_session.specs.State.{Used}
 use Rattle.hc_session.specs.Serving.{KeepsOn, Serves}
 use Rattle.hc_session.specs.Standing.{plain_with}
 use Rattle.hc_session.specs.Tables.{did_in}
 use Rattle.hc_session.specs.Using.{MovesInWant, is_accepted, uses_if}
-use Rattle.hc_session.proofs.Readied.{IsKept, used-keeps, want-keeps}
+use Rattle.hc_session.proofs.Readers.{met-none}
+use Rattle.hc_session.proofs.Readied.{IsKept, not-asking, result-keeps, used-keeps, want-keeps}
 
 -- The writer goes on
 
@@ -45,10 +47,10 @@ still-goes {P} a b still = record {
 -- readers were met
 met-goes : {P : Type 0} (a b : ObjectsState P) → HaveMet a b → Goes a.heap.desk b.heap.desk
 met-goes {P} a b met = record {
-  board = ap (λ (s : ObjectsState P). s.heap.desk.board) met.1;
-  trail = record { more = []; is = ap (λ (s : ObjectsState P). s.heap.desk.trail) met.1 ∙ sym (append-nil a.heap.desk.trail) };
-  loads = omega (arith, ap (λ (s : ObjectsState P). s.heap.desk.loads) met.1);
-  met = record { more = met.0; is = ap (λ (s : ObjectsState P). s.heap.desk.met) met.1 };
+  board = ap (λ (s : ObjectsState P). s.heap.desk.board) met.1.is;
+  trail = record { more = []; is = ap (λ (s : ObjectsState P). s.heap.desk.trail) met.1.is ∙ sym (append-nil a.heap.desk.trail) };
+  loads = met.1.loads;
+  met = record { more = met.0; is = ap (λ (s : ObjectsState P). s.heap.desk.met) met.1.is };
 }
 
 module _ {P : Type 0} (went : P → List Access → List Access → P → Type 0) where
@@ -104,14 +106,11 @@ facts_none s t lawful = record { goes = goes-still s lawful; constants = λ o m 
 -- readers were met, and nothing else was done
 pub met-keeps-on : {P : Type 0} (a b : ObjectsState P) → Lawful a.heap.view.shape a.heap.view.trail → HaveMet a b → KeepsOn a b
 met-keeps-on {P} a b lawful met = record {
-  shape = ap (λ (s : ObjectsState P). s.heap.view.shape) met.1;
+  shape = ap (λ (s : ObjectsState P). s.heap.view.shape) met.1.is;
   goes = met-goes a b met;
-  facts = subst (λ (s : ObjectsState P). FactsStay a.heap.view.shape a.heap.view.trail s.heap.view.trail) (sym met.1) (facts_none a.heap.view.shape a.heap.view.trail lawful);
-  calm = λ calm. subst (λ (s : ObjectsState P). AreCalm s.heap.view.trail) (sym met.1) calm;
+  facts = subst (λ (s : ObjectsState P). FactsStay a.heap.view.shape a.heap.view.trail s.heap.view.trail) (sym met.1.is) (facts_none a.heap.view.shape a.heap.view.trail lawful);
+  calm = λ calm. subst (λ (s : ObjectsState P). AreCalm s.heap.view.trail) (sym met.1.is) calm;
 }
-
-pub met-none : {P : Type 0} (a b : ObjectsState P) → b ≡ a → HaveMet a b
-met-none {P} a b same = ([], same ∙ ap (λ xs. record a { heap = record a.heap { desk = record a.heap.desk { met = xs } } }) (sym (append-nil a.heap.desk.met)))
 
 -- the laws of objects
 pub record Laws {P : Type 0} (went_on : P → List Access → List Access → P → Type 0) : Type 0 where
@@ -169,3 +168,8 @@ module _ {P : Type 0} (went : P → List Access → List Access → P → Type 0
       → OnErr r (MovesInWant went a (uses_if (is_accepted (plain_with a sites) command) command) b) → KeepsOn a b
   result-keeps-on a b sites now log log_now command (Ok reply) sound sound_now serves wants = used-keeps-on a b sites now log log_now command reply sound sound_now serves
   result-keeps-on a b sites now log log_now command (Err fault) sound sound_now serves wants = want-keeps-on a b (uses_if (is_accepted (plain_with a sites) command) command) sound sound_now wants
+
+  -- a command on objects, up to the discards of its end
+  pub objects-keep-on : (a b : ObjectsState P) (accepted : Bool) (command : Command) (did : Did) (r : Result Reply Memory) → is_beside command ≡ false → IsStanding a → IsStanding b → OnOk r (Used went a accepted command did b) → OnErr r (MovesInWant went a (uses_if accepted command) b) → KeepsOn a b
+  objects-keep-on a b accepted command did r on sound sound_now used want =
+      result-keeps went Reply (KeepsOn a) (kept a) (kept-lawful a) a b accepted command did r (not-asking went (KeepsOn a) command on) sound sound_now used want (none-keeps-on a sound)

@@ -5,6 +5,7 @@ pub mod Ends
 pub mod Entered
 pub mod FirstRefused
 pub mod Keeps
+pub mod Losing
 pub mod Marked
 pub mod Readers
 pub mod NamedActs
@@ -27,3 +28,13 @@ pub mod Uses
 pub mod Worked
 pub mod Working
 pub mod Accessed
+pub mod Answering
+pub mod Rested
+pub mod Settled
+pub mod Asked
+pub mod Broken
+pub mod Logged
+pub mod Quiet
+pub mod Passed
+pub mod Ended
+pub mod Done

@@ -14,6 +14,7 @@ use Rattle.hc_modes.specs.State.{ObjectsState}
 use Rattle.hc_session.specs.State.{Does, NotedInWant, Wants, any_pace}
 use Rattle.hc_session.specs.Using.{is_accepted, uses_if}
 use Rattle.hc_session.proofs.Readied.{want-tables}
+use Rattle.hc_report.specs.declared.line.Line.{Line}
 use Rattle.hc_session.proofs.Declares.{want-seen}
 use Rattle.hc_session.specs.Output.{Outside, Place, Answers, AnswersLine, AnswersNext, PassesLine, AnswersUntilRefused, AnswersUntilFault}
 use Rattle.hc_session.specs.Replay.{RepliesAsTables, EndsRun, nothing_made, the_first_place}
@@ -57,12 +58,12 @@ module _ {P : Type 0} where
   want_keeps_tables old new command (inl same) = rw (same.objects, same.sites, same.compiler) refl
   want_keeps_tables old new command (inr marked) =
       ap (λ (tables : Tables). record { tables = tables; sites = (plain_of old).sites; jobs = jobs_of old.compiler }) (sym (want-tables any_pace old.objects new.objects (uses_if (is_accepted (plain_of old) command) command) marked.moves))
-      ∙ ap (λ (xs : List Site). record { tables = tables_of new.objects; sites = xs; jobs = jobs_of old.compiler }) (sym (noted old.objects old.sites new.sites command marked.sites))
+      ∙ ap (λ (xs : List Site). record { tables = tables_of new.objects; sites = xs; jobs = jobs_of old.compiler }) (sym (noted old.objects old.sites new.sites old.log new.log command marked.noted))
       ∙ ap (λ (c : Compiling). record { tables = tables_of new.objects; sites = (plain_of new).sites; jobs = jobs_of c }) (sym marked.compiler)
     where
-      noted : (objects : ObjectsState P) (sites now : List SiteState) (command : Command) → NotedInWant any_pace objects sites command now → map (λ (x : SiteState). x.site) now ≡ map (λ (x : SiteState). x.site) sites
-      noted objects sites now command (inl same) = ap (λ (xs : List SiteState). map (λ (x : SiteState). x.site) xs) same
-      noted objects sites now command (inr h) = ap (λ (xs : List SiteState). map (λ (x : SiteState). x.site) xs) h.2 ∙ want-seen h.0 sites command
+      noted : (objects : ObjectsState P) (sites now : List SiteState) (log log_now : List (ℕ × Line)) (command : Command) → NotedInWant any_pace objects sites log command now log_now → map (λ (x : SiteState). x.site) now ≡ map (λ (x : SiteState). x.site) sites
+      noted objects sites now log log_now command (inl same) = ap (λ (xs : List SiteState). map (λ (x : SiteState). x.site) xs) same.0
+      noted objects sites now log log_now command (inr h) = ap (λ (xs : List SiteState). map (λ (x : SiteState). x.site) xs) h.2.sites_are ∙ want-seen h.0 sites command
 
   ends_same : (old new : Standing P) (end : Place (Standing P)) → IsLeft old new end → plain_of end.state ≡ plain_of new
   ends_same old new end left = ap (λ (s : Standing P). plain_of s) left.same

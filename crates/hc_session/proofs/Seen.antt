@@ -47,15 +47,15 @@ seen-on s old new sites law goes seen n state is = written-on s old new state.ma
 
 -- Events
 
--- an event that notes a map notes one that is written
-abbrev IsFine : Trail → Event → Type 0
+-- an event that notes a map notes one that is written, and none installs a plan
+abbrev pub IsFine : Trail → Event → Type 0
 IsFine t (noted m) = IsSome (gate_in t m)
 IsFine t (forgotten m) = Unit {0}
 IsFine t (filled entry) = Unit {0}
-IsFine t (installed plan) = Unit {0}
+IsFine t (installed plan) = ⊥
 IsFine t discarded = Unit {0}
 
-abbrev AreFine : Trail → List Event → Type 0
+abbrev pub AreFine : Trail → List Event → Type 0
 AreFine t [] = Unit {0}
 AreFine t (event ∷ events) = IsFine t event × AreFine t events
 
@@ -72,7 +72,7 @@ event-written : (t : Trail) (state : SiteState) (event : Event) → IsFine t eve
 event-written t state (noted m) fine written = map-written t state.maps m written fine
 event-written t state (forgotten m) fine written = All-filter (λ other. not (other == m)) (λ k. IsSome (gate_in t k)) state.maps written
 event-written t state (filled entry) fine written = written
-event-written t state (installed plan) fine written = written
+event-written t state (installed plan) fine written = absurd fine
 event-written t state discarded fine written = written
 
 event-seen : (t : Trail) (sites : List SiteState) (s : ℕ) (event : Event) → IsFine t event → AreSeen t sites → (n : ℕ) (state : SiteState) → slice_get (with_event sites s event) n ≡ Some state → AreWritten t state.maps
@@ -159,7 +159,7 @@ module _ {P : Type 0} (a : ObjectsState P) (written : HaveGates a.heap.view.trai
       by None is = tt
       by (Some m) is = notes-fine a.heap.view.trail (maps_at sites s) m (written o m is)
 
-  events-fine : (op : Op) (name : ℕ) → AreFine a.heap.view.trail (events_at a sites s o op name)
+  pub events-fine : (op : Op) (name : ℕ) → AreFine a.heap.view.trail (events_at a sites s o op name)
   events-fine Load name =
       both-fine a.heap.view.trail (note_events a sites s o) (fills_for (map_in a.heap.view.trail o) (is_cached a.heap.view.trail sites s o) (load_fills a o name)) note-fine
       (fills-fine a.heap.view.trail (map_in a.heap.view.trail o) (is_cached a.heap.view.trail sites s o) (load_fills a o name) (λ m. by-fine a.heap.view.trail a.heap.view m (object (world_of a) o).proto (load_way a o name)))

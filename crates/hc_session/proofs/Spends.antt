@@ -16,7 +16,6 @@ use Rattle.hc_tree.specs.Needs.{HasSpace}
 use Rattle.hc_slots.specs.Meaning.{Dictionary}
 use Rattle.hc_modes.specs.Meaning.{cause_in}
 use Rattle.hc_modes.specs.Spent.{IsNearlyFull, IsSpent, greatest_need}
-use Rattle.hc_modes.specs.Readers.{with_entries}
 use Rattle.hc_modes.specs.State.{ObjectsState, IsObjects}
 use Rattle.hc_board.specs.Parts.{MetEntry}
 use Rattle.hc_report.specs.declared.line.Line.{Line}
@@ -26,12 +25,16 @@ use Rattle.hc_session.specs.Logging.{answers_in, is_answer, lines_since}
 use Rattle.hc_session.specs.Output.{Place, Turns, Answers}
 use Rattle.hc_session.specs.Replay.{the_first_place}
 use Rattle.hc_session.specs.Plain.{Answer, act_in, is_access}
-use Rattle.hc_session.specs.Standing.{Standing, plain_of}
-use Rattle.hc_session.specs.State.{Does, Stands, Wants, any_pace}
+use Rattle.hc_session.specs.Plans.{lines_lost, lines_ready}
+use Rattle.hc_session.specs.Standing.{Standing, plain_of, plain_with}
+use Rattle.hc_session.specs.State.{Does, NotedInWant, Stands, Wants, any_pace}
 use Rattle.hc_session.specs.Tables.{did_in}
 use Rattle.hc_objects.specs.State.{IsStanding}
 use Rattle.hc_session.specs.Using.{AreReadied, is_accepted, uses_if}
+use Rattle.hc_sites.specs.declared.state.SiteState.{SiteState}
+use Rattle.hc_session.proofs.Losing.{lost-none}
 use Rattle.hc_session.proofs.Marked.{lines_marked}
+use Rattle.hc_session.proofs.Readers.{looked_at, met-by}
 use Rattle.hc_session.proofs.Readied.{became-by, few-used, readied-keeps}
 use mathlib.Core.Logic.{◌⊎◌, inl, inr}
 
@@ -127,8 +130,8 @@ asked-but {P} law n a b few asked =
     }
 
 -- readers that are met hand out nothing
-met-spent : {P : Type 0} (a : ObjectsState P) (entries : List MetEntry) → IsSpent 4 a a → IsSpent 4 a (with_entries a entries)
-met-spent {P} a entries h = record { within = h.within; shape = h.shape; space = h.space }
+met-spent : {P : Type 0} (a : ObjectsState P) (entries : List MetEntry) (n : ℕ) → IsSpent 4 a a → IsSpent 4 a (looked_at a entries n)
+met-spent {P} a entries n h = record { within = h.within; shape = h.shape; space = h.space }
 
 -- how many lines say how a site answered
 answers-both : (xs ys : List (ℕ × Line)) → answers_in (xs ++ ys) ≡ answers_in xs + answers_in ys
@@ -179,7 +182,7 @@ module _ {P : Type 0} (law : SpendLittle P) (few : FewCells P) where
   then-met : (uses : List ℕ) (a ready b : ObjectsState P) → length uses ≤ 3 → IsStanding a → AreReadied any_pace a uses ready → HaveMet ready b → IsSpent 8 a b
   then-met uses a ready b le sound readied met =
       law.more (length uses + 4) 8 a b (omega (arith, le))
-      (law.onward (length uses) 4 a ready b (readied-spent uses a ready sound readied) (subst (λ (s : ObjectsState P). IsSpent 4 ready s) (sym met.1) (met-spent ready met.0 (law.none 4 ready))))
+      (law.onward (length uses) 4 a ready b (readied-spent uses a ready sound readied) (met-by ready b (λ (s : ObjectsState P). IsSpent 4 ready s) (λ entries n. met-spent ready entries n (law.none 4 ready)) met))
 
   -- a command that is answered
   with-lines : (a b : ObjectsState P) (m n : ℕ) → m ≤ n → AreSpent 8 m a b → AreSpent 8 n a b
@@ -280,17 +283,35 @@ module _ {P : Type 0} (law : SpendLittle P) (few : FewCells P) where
   first-few : (first left uses : List ℕ) → uses ≡ first ++ left → length uses ≤ 3 → length first ≤ 3
   first-few first left uses is le = omega (arith, le, ap (λ (xs : List ℕ). length xs) is, length-append first left)
 
-  -- it puts no line into the log
+  -- it puts no line into the log that says how a site answered
   record SpendsInWant (a b : Standing P) : Type 0 where
-    pub log : b.log ≡ a.log
+    pub more : List (ℕ × Line)
+    pub log : b.log ≡ a.log ++ more
+    pub none : answers_in more ≡ 0
     pub spent : IsSpent 8 a.objects b.objects
 
+  ready-none : (ready : ObjectsState P) (sites : List SiteState) (command : Command) → answers_in (lines_ready ready sites command) ≡ 0
+  ready-none ready sites (Exec s o value) = by (is_access (plain_with ready sites) (Exec s o value))
+    where
+      by : (b : Bool) → answers_in (if b then lines_lost ready sites else []) ≡ 0
+      by true = lost-none ready sites
+      by false = refl
+  ready-none ready sites command = refl
+
+  -- the lines of discards, if any
+  noted-lines : (a b : Standing P) (command : Command) → NotedInWant any_pace a.objects a.sites a.log command b.sites b.log → (more : List (ℕ × Line)) × (b.log ≡ a.log ++ more) × (answers_in more ≡ 0)
+  noted-lines a b command (inl same) = ([], same.1 ∙ sym (append-nil a.log), refl)
+  noted-lines a b command (inr noted) = (lines_ready noted.0 a.sites command, noted.2.lines_are, ready-none noted.0 a.sites command)
+
   want_spends : (a b : Standing P) (command : Command) → Stands a.objects → Wants any_pace a command b → SpendsInWant a b
-  want_spends a b command stands (inl same) = record { log = same.log; spent = subst (λ (o : ObjectsState P). IsSpent 8 a.objects o) (sym same.objects) (law.none 8 a.objects) }
+  want_spends a b command stands (inl same) = record { more = []; log = same.log ∙ sym (append-nil a.log); none = refl; spent = subst (λ (o : ObjectsState P). IsSpent 8 a.objects o) (sym same.objects) (law.none 8 a.objects) }
   want_spends a b command stands (inr marked) =
       let want = marked.moves in
+      let lines = noted-lines a b command marked.noted in
       record {
-        log = marked.log;
+        more = lines.0;
+        log = lines.1;
+        none = lines.2;
         spent = then-spent want.first a.objects want.ready b.objects Moved (first-few want.first want.left (uses_if (is_accepted (plain_of a) command) command) want.split (few-used (is_accepted (plain_of a) command) command))
             (record { objects = stands.sound; cells = stands.cells }) want.readied want.moves;
       }
@@ -298,10 +319,11 @@ module _ {P : Type 0} (law : SpendLittle P) (few : FewCells P) where
   in-want-so : (n : ℕ) (a b c : Standing P) → SpendsSo n a b → SpendsInWant b c → IsUsed (n + 1) a c
   in-want-so n a b c so want =
       let both = spent-on (8 * n) 8 (answers_in so.more) 0 a.objects b.objects c.objects so.spent (same-but 8 b.objects c.objects want.spent) in
-      let lines : lines_since a c ≡ so.more = ap (λ (xs : List (ℕ × Line)). drop (length a.log) xs) (want.log ∙ so.log) ∙ drop_at a.log so.more (length a.log) refl in
+      let log : c.log ≡ a.log ++ (so.more ++ want.more) = want.log ∙ ap (λ (xs : List (ℕ × Line)). xs ++ want.more) so.log ∙ append_assoc a.log so.more want.more in
+      let lines : lines_since a c ≡ so.more ++ want.more = ap (λ (xs : List (ℕ × Line)). drop (length a.log) xs) log ∙ drop_at a.log (so.more ++ want.more) (length a.log) refl in
       record {
         spent = subst (λ (k : ℕ). IsSpent k a.objects (but_cells a.objects c.objects)) (eight-more n) both.spent;
-        cells = omega (arith, both.cells, ap answers_in lines);
+        cells = omega (arith, both.cells, want.none, ap answers_in lines, answers-both so.more want.more);
       }
     where
       eight-more : (n : ℕ) → 8 * n + 8 ≡ 8 * (n + 1)

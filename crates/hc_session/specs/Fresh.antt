@@ -1,5 +1,5 @@
 -- What a session keeps.
-use Rattle.std.specs.Prelude.{◌≡◌, ◌≤◌, true, None, []}
+use Rattle.std.specs.Prelude.{◌≡◌, ◌≤◌, true, false, None, []}
 use Rattle.hc_layout.specs.declared.shape.Shape.{Shape}
 use Rattle.hc_layout.specs.declared.shape.TheConstants.{USUAL}
 use Rattle.hc_value.specs.declared.word.TheConstants.{TEXT_LIMIT}
@@ -11,6 +11,7 @@ use Rattle.hc_objects.specs.Came.{world_of}
 use Rattle.hc_modes.specs.Rest.{AreCalm}
 use Rattle.hc_modes.specs.State.{ObjectsState}
 use Rattle.hc_session.specs.Jobs.{AreSeen}
+use Rattle.hc_session.specs.Plans.{ArePlanned, AreSitesOf}
 use Rattle.hc_session.specs.Serving.{AreNamedSites}
 use Rattle.hc_session.specs.Standing.{Standing, plain_of}
 
@@ -31,11 +32,12 @@ pub record IsNew {P : Type 0} (session : Standing P) : Type 0 where
   pub compiler : session.compiler ≡ no_jobs
   pub log : session.log ≡ []
   pub marks : session.marks ≡ []
+  pub going : session.lacking ≡ false
 
 -- where no command was performed nothing was done; the shape is that of the objects, which may be at most as many as in the usual one;
 -- no map is unstable that a prototype has; what each field says of values is true of all objects; each site's name has a number; each
--- entry of an inline cache says where full lookup finds the property; the maps that sites have seen are written; and each open job
--- reads the words of these objects
+-- entry of an inline cache says where full lookup finds the property; the maps that sites have seen are written; each open job
+-- reads the words of these objects, and is one of a site that is there; and as long as no command lacked memory each site's plan is borne, and jobs read at rest
 pub record IsSession {P : Type 0} (shape : Shape) (session : Standing P) : Type 0 where
   pub fresh : session.fresh ≡ true → IsNew session
   pub shape_is : shape ≡ session.objects.heap.view.shape
@@ -46,3 +48,5 @@ pub record IsSession {P : Type 0} (shape : Shape) (session : Standing P) : Type 
   pub good : AreGood session.objects session.sites
   pub seen : AreSeen session.objects.heap.view.trail session.sites
   pub reading : AreReading session.objects session.compiler.jobs
+  pub opened : AreSitesOf session.sites session.compiler.jobs
+  pub planned : session.lacking ≡ false → ArePlanned session.objects session.sites session.compiler.jobs

@@ -2,11 +2,13 @@ pub mod Tables
 pub mod Plain
 pub mod Standing
 pub mod Using
+pub mod Plans
 pub mod Jobs
 pub mod Logging
 pub mod State
 pub mod Begins
 pub mod Serving
+pub mod Asking
 pub mod Fault
 pub mod Output
 pub mod Replay

@@ -1,11 +1,12 @@
 -- What commands do to property tables, declared sites and jobs.
-use Rattle.std.specs.Prelude.{◌≡◌, ◌⊎◌, ℕ, ◌+◌, ◌<◌, ◌-◌, ◌^◌, ◌==◌, nat_lt, Bool, true, false, not, ◌&&◌, ◌||◌, if◌then◌else◌, is_some, List, [], ◌∷◌, ◌++◌, length, slice_get, Option, Some, None}
+use Rattle.std.specs.Prelude.{◌≡◌, ◌⊎◌, ℕ, ◌+◌, ◌<◌, ◌≤◌, ◌-◌, ◌^◌, ◌==◌, nat_lt, Bool, true, false, not, ◌&&◌, ◌||◌, if◌then◌else◌, is_some, List, [], ◌∷◌, ◌++◌, length, slice_get, Option, Some, None}
 use Rattle.hc_value.specs.declared.reply.Reply.{Reply}
 use Rattle.hc_value.specs.declared.reply.Reply.TheVariants.{Site as SiteReply, Job as JobReply, Fine, Finished, NoObject, NoSite, NoJob, WrongSite, NoRoom}
 use Rattle.hc_value.specs.declared.value.Value.{Value}
 use Rattle.hc_plan.specs.declared.case.Op.{Op}
 use Rattle.hc_plan.specs.declared.case.Op.TheVariants.{Load, Store}
 use Rattle.hc_plan.specs.declared.case.Site.{Site}
+use Rattle.hc_plan.specs.declared.deps.Dep.{Dep}
 use Rattle.hc_plan.specs.declared.skip.Why.{Why}
 use Rattle.hc_table.specs.Changes.{after}
 use Rattle.hc_table.specs.Kept.{Kept as Tables, with_world}
@@ -17,8 +18,8 @@ use Rattle.hc_commands.specs.declared.command.Command.{Command}
 use Rattle.hc_commands.specs.declared.command.Command.TheVariants.{Declare, Exec, Compile, Step, Finish}
 use Rattle.hc_report.specs.Lines.{log_line}
 use Rattle.hc_report.specs.Text.{reply_line}
-use Rattle.hc_report.specs.declared.line.Line.TheVariants.{Cache, Slow, NoPlan}
-use Rattle.hc_session.specs.Tables.{IsReplyOf, act_of, did_in, is_among, names_among, says}
+use Rattle.hc_report.specs.declared.line.Line.TheVariants.{Hit, Cache, Slow, Install, Refuse, NoPlan, Discard}
+use Rattle.hc_session.specs.Tables.{IsReplyOf, act_of, all_there, did_in, is_among, names_among, says}
 
 -- how many jobs were started, and the numbers of those that are open, in any order
 pub record PlainJobs : Type 0 where
@@ -174,28 +175,61 @@ abbrev pub HasSiteNumber : ℕ → Command → Type 0
 HasSiteNumber count (Declare op name) = count < 2 ^ 32 - 1
 HasSiteNumber count command = Unit {0}
 
--- the text of the one line of an access of a site: it says whether the inline cache answered, which tables don't tell
-abbrev pub IsAccessText : ℕ → List ℕ → Type 0
-IsAccessText s log = (log ≡ log_line (Cache s)) ⊎ (log ≡ log_line (Slow s))
+-- What a command puts into the log, as far as tables tell: not what answers an access, nor what becomes of plans
 
-abbrev pub IsTextIf : Bool → ℕ → List ℕ → Type 0
-IsTextIf true s log = IsAccessText s log
-IsTextIf false s log = log ≡ []
+-- sites with numbers from one on, rising, of so many
+abbrev pub AreRising : ℕ → ℕ → List (ℕ × Dep) → Type 0
+AreRising from count [] = Unit {0}
+AreRising from count (lost ∷ others) = (from ≤ lost.0) × (lost.0 < count) × AreRising (lost.0 + 1) count others
 
--- the text of a job's end: one line where it has no plan, which says why, and no line where it has one
-abbrev pub IsEndText : ℕ → List ℕ → Type 0
-IsEndText j log = (log ≡ []) ⊎ ((why : Why) × (log ≡ log_line (NoPlan j why)))
+abbrev pub discards_text : List (ℕ × Dep) → List ℕ
+discards_text [] = []
+discards_text (lost ∷ others) = log_line (Discard lost.0 lost.1) ++ discards_text others
 
-abbrev pub IsEndTextIf : Bool → ℕ → List ℕ → Type 0
-IsEndTextIf true j log = IsEndText j log
-IsEndTextIf false j log = log ≡ []
+-- lines of discards, any number, by rising site
+abbrev pub IsDiscardsText : ℕ → List ℕ → Type 0
+IsDiscardsText count log = (lost : List (ℕ × Dep)) × AreRising 0 count lost × (log ≡ discards_text lost)
 
--- what a command puts into the log: an access that is accepted one line, the end of a job that is open one at most, and nothing
--- else anything
+-- the one line that says what answered an access
+abbrev pub IsAnswerText : ℕ → List ℕ → Type 0
+IsAnswerText s log = ((case : ℕ) × (log ≡ log_line (Hit s case))) ⊎ ((log ≡ log_line (Cache s)) ⊎ (log ≡ log_line (Slow s)))
+
+-- it stands between the discards of its receiver's migration and those of the command's end
+pub record IsAccessText (count s : ℕ) (log : List ℕ) : Type 0 where
+  pub before : List ℕ
+  pub line : List ℕ
+  pub after : List ℕ
+  pub discards_before : IsDiscardsText count before
+  pub answers : IsAnswerText s line
+  pub discards_after : IsDiscardsText count after
+  pub log_is : log ≡ before ++ (line ++ after)
+
+abbrev pub IsTextIf : Bool → ℕ → ℕ → List ℕ → Type 0
+IsTextIf true count s log = IsAccessText count s log
+IsTextIf false count s log = log ≡ []
+
+-- the one line of a job's end: its plan was installed at one of the sites, or refused, or there is none
+abbrev pub IsEndText : ℕ → ℕ → List ℕ → Type 0
+IsEndText count j log =
+    ((s : ℕ) × (s < count) × (log ≡ log_line (Install j s)))
+    ⊎ (((dep : Dep) × (log ≡ log_line (Refuse j dep))) ⊎ ((why : Why) × (log ≡ log_line (NoPlan j why))))
+
+abbrev pub IsEndTextIf : Bool → ℕ → ℕ → List ℕ → Type 0
+IsEndTextIf true count j log = IsEndText count j log
+IsEndTextIf false count j log = log ≡ []
+
+-- a command on objects that is accepted may break plans
+abbrev pub MayDiscardIf : Bool → ℕ → List ℕ → Type 0
+MayDiscardIf true count log = IsDiscardsText count log
+MayDiscardIf false count log = log ≡ []
+
 abbrev pub IsLogText : PlainState → Command → List ℕ → Type 0
-IsLogText plain (Exec s o value) log = IsTextIf (is_access plain (Exec s o value)) s log
-IsLogText plain (Finish j) log = IsEndTextIf (is_accepted_job plain (Finish j)) j log
-IsLogText plain command log = log ≡ []
+IsLogText plain (Declare op name) log = log ≡ []
+IsLogText plain (Compile s) log = log ≡ []
+IsLogText plain (Step j reads) log = log ≡ []
+IsLogText plain (Exec s o value) log = IsTextIf (is_access plain (Exec s o value)) (length plain.sites) s log
+IsLogText plain (Finish j) log = IsEndTextIf (is_accepted_job plain (Finish j)) (length plain.sites) j log
+IsLogText plain command log = MayDiscardIf (all_there plain.tables command) (length plain.sites) log
 
 -- a command may be answered so by property tables with sites and jobs, and leave these
 pub record AnswersPlainly (old : PlainState) (command : Command) (answer : Answer) (new : PlainState) : Type 0 where

@@ -11,7 +11,7 @@ use Rattle.hc_sites.specs.declared.state.SiteState.{SiteState}
 use Rattle.hc_session.specs.Plain.{PlainJobs, PlainState, none_started}
 
 -- the objects with their pace; the sites; the jobs; the log, each line with how many stores there were before it, and the marks;
--- and whether no command was performed yet
+-- whether no command was performed yet; and whether one lacked memory, after which none is performed
 pub record Standing (P : Type 0) : Type 0 where
   pub objects : ObjectsState P
   pub sites : List SiteState
@@ -19,6 +19,7 @@ pub record Standing (P : Type 0) : Type 0 where
   pub log : List (ℕ × Line)
   pub marks : List Mark
   pub fresh : Bool
+  pub lacking : Bool
 
 -- the objects as property tables
 abbrev pub tables_of : {P : Type 0} → ObjectsState P → Tables

@@ -1,5 +1,5 @@
 -- The objects that commands change, how they are kept, and what each command does to them.
-use Rattle.std.specs.Prelude.{◌≡◌, ◌≢◌, ◌↔◌, ◌⊎◌, ⊤, ℕ, Bool, true, if◌then◌else◌, IsTrue, List, [], ◌∷◌, ◌++◌, Option, Some, None}
+use Rattle.std.specs.Prelude.{◌≡◌, ◌≢◌, ◌↔◌, ◌⊎◌, ⊤, ℕ, Bool, true, false, if◌then◌else◌, IsTrue, List, [], ◌∷◌, ◌++◌, Option, Some, None}
 use Rattle.hc_board.specs.Trail.{Access}
 use Rattle.hc_value.specs.declared.reply.Reply.{Reply}
 use Rattle.hc_value.specs.declared.reply.Reply.TheVariants.{Flag, Shape as HowKept}
@@ -13,15 +13,16 @@ use Rattle.hc_modes.specs.Rest.{AreCalm}
 use Rattle.hc_modes.specs.State.{ObjectsState, IsObjects}
 use Rattle.hc_objects.specs.Came.{Came}
 use Rattle.hc_commands.specs.declared.command.Command.{Command}
-use Rattle.hc_commands.specs.declared.command.Command.TheVariants.{Keys, Shape, Same, Declare, Exec, Step, Finish}
+use Rattle.hc_commands.specs.declared.command.Command.TheVariants.{Keys, Shape, Same, Declare, Exec, Compile, Step, Finish}
 use Rattle.hc_plan.specs.declared.case.Site.{Site}
 use Rattle.hc_access.specs.Accesses.{AskedCell, events_at, note_events, site_at, with_events}
-use Rattle.hc_access.specs.Entries.{is_cached}
 use Rattle.hc_sites.specs.State.{new_site}
 use Rattle.hc_sites.specs.declared.state.SiteState.{SiteState}
 use Rattle.hc_session.specs.Jobs.{HaveMet, Works}
 use Rattle.hc_session.specs.Logging.{Logs, lines_since, log_text, mark_of}
 use Rattle.hc_session.specs.Plain.{Answer, AnswersPlainly, IsServed, act_in, is_accepted_job, is_access}
+use Rattle.hc_report.specs.declared.line.Line.{Line}
+use Rattle.hc_session.specs.Plans.{AreUpheld, Chooses, Chosen, by_plan, by_cache, by_lookup, lines_ready, sites_left}
 use Rattle.hc_session.specs.Standing.{Standing, plain_of, plain_with}
 use Rattle.hc_session.specs.Tables.{did_in}
 use Rattle.hc_session.specs.Using.{AreReadied, MovesInWant, is_accepted, uses_if}
@@ -47,23 +48,32 @@ IsTrueReply objects (Shape o) (HowKept mode) = mode ≡ mode_of objects.heap.vie
 IsTrueReply objects (Same a b) (Flag same) = HaveOneMap objects a b same
 IsTrueReply objects command reply = Unit {0}
 
--- the sites after an access that is accepted
-abbrev pub sites_at : {P : Type 0} → ObjectsState P → List SiteState → ℕ → ℕ → Option Site → List SiteState
-sites_at objects sites s o None = sites
-sites_at objects sites s o (Some site) = with_events sites s (events_at objects sites s o site.op site.name)
+-- the sites after an access that is accepted: nothing happens at one whose plan answers
+abbrev pub sites_at : {P : Type 0} → ObjectsState P → List SiteState → ℕ → ℕ → Option Site → Chosen → List SiteState
+sites_at objects sites s o site (by_plan case) = sites
+sites_at objects sites s o None chosen = sites
+sites_at objects sites s o (Some site) chosen = with_events sites s (events_at objects sites s o site.op site.name)
 
--- the sites after a command: nothing happened yet at one that is declared, and an access notes its receiver's map and may fill the
--- inline cache
-abbrev pub sites_by : {P : Type 0} → ObjectsState P → List SiteState → Command → List SiteState
-sites_by objects sites (Declare op name) = sites ++ new_site (record { op = op; name = name }) ∷ []
-sites_by objects sites (Exec s o value) = if is_access (plain_with objects sites) (Exec s o value) then sites_at objects sites s o (site_at sites s) else sites
-sites_by objects sites command = sites
+-- the sites after a command, but for what it breaks: nothing happened yet at one that is declared, and an access notes its receiver's
+-- map and may fill the inline cache, unless the site's plan answers
+abbrev pub sites_by : {P : Type 0} → ObjectsState P → List SiteState → Command → Chosen → List SiteState
+sites_by ready sites (Declare op name) chosen = sites ++ new_site (record { op = op; name = name }) ∷ []
+sites_by ready sites (Exec s o value) chosen =
+    if is_access (plain_with ready sites) (Exec s o value) then sites_at ready (sites_left ready sites) s o (site_at sites s) chosen else sites
+sites_by ready sites command chosen = sites
 
--- and after one that lacked memory then: an access has noted its receiver's map
+-- and those whose plans it broke lose them at its end. What commands of jobs do to sites is said with what they do to jobs
+abbrev pub AreSitesAfter : {P : Type 0} → ObjectsState P → List SiteState → Command → Chosen → ObjectsState P → List SiteState → Type 0
+AreSitesAfter ready sites (Compile s) chosen now sites_now = sites_now ≡ sites
+AreSitesAfter ready sites (Step j reads) chosen now sites_now = sites_now ≡ sites
+AreSitesAfter ready sites (Finish j) chosen now sites_now = Unit {0}
+AreSitesAfter ready sites command chosen now sites_now = sites_now ≡ sites_left now (sites_by ready sites command chosen)
+
+-- and after one that lacked memory then: plans that its receiver's migration broke were discarded, and it has noted the receiver's map
 abbrev pub sites_in_want : {P : Type 0} → ObjectsState P → List SiteState → Command → List SiteState
-sites_in_want objects sites (Exec s o value) =
-    if is_access (plain_with objects sites) (Exec s o value) then with_events sites s (note_events objects sites s o) else sites
-sites_in_want objects sites command = sites
+sites_in_want ready sites (Exec s o value) =
+    if is_access (plain_with ready sites) (Exec s o value) then with_events (sites_left ready sites) s (note_events ready (sites_left ready sites) s o) else sites
+sites_in_want ready sites command = sites
 
 -- what became of objects, once those that a command uses were migrated: the one change that is made, if any; or an access that is
 -- accepted and makes none asked for a cell, as no other command does; or a command on an open job had its reader met
@@ -79,27 +89,38 @@ pub record Used {P : Type 0} (went : P → List Access → List Access → P →
   pub readied : AreReadied went a (uses_if accepted command) ready
   pub done : Became went accepted ready command did b
 
--- an access that reads is a few loads where the inline cache answers, and nothing is stored: its receiver's map was live
-abbrev pub IsCheap : {P : Type 0} → ObjectsState P → ObjectsState P → List SiteState → Command → ObjectsState P → Type 0
-IsCheap old ready sites (Exec s o None) new =
-    is_access (plain_with ready sites) (Exec s o None) ≡ true → is_cached ready.heap.view.trail sites s o ≡ true
-    → new.heap.desk.trail ≡ old.heap.desk.trail → OnlyLoads 24 old.heap.desk new.heap.desk
-IsCheap old ready sites command new = Unit {0}
+-- an access that reads is a few loads where a plan answers, or the inline cache, and nothing is stored: its receiver's map was live
+abbrev pub loads_by : Chosen → ℕ
+loads_by (by_plan case) = 4
+loads_by chosen = 24
 
--- what a command that is answered does: it answers as the tables do, and truly of how objects are kept; the objects that it uses were
--- migrated, and then what became of words, modes, needs and prototypes is what becomes of the one change; the sites are these;
--- jobs are started, make their reads and end so; the log goes on; and the inline cache's answers are cheap
+abbrev pub IsCheapBy : {P : Type 0} → ObjectsState P → Chosen → ObjectsState P → Type 0
+IsCheapBy old by_lookup new = Unit {0}
+IsCheapBy old chosen new = new.heap.desk.trail ≡ old.heap.desk.trail → OnlyLoads (loads_by chosen) old.heap.desk new.heap.desk
+
+abbrev pub IsCheap : {P : Type 0} → ObjectsState P → ObjectsState P → List SiteState → Command → Chosen → ObjectsState P → Type 0
+IsCheap old ready sites (Exec s o None) chosen new = is_access (plain_with ready sites) (Exec s o None) ≡ true → IsCheapBy old chosen new
+IsCheap old ready sites command chosen new = Unit {0}
+
+-- what a command does that is answered: it answers as the tables do, and truly of how objects are kept; the objects that it uses were
+-- migrated, and then what became of words, modes, needs and prototypes is what becomes of the one change; an access is answered by
+-- its site's plan, or the inline cache, or full lookup; the sites are these, and no plan is left that was broken: each answers as full
+-- lookup; jobs are started, make their reads and end so; the log goes on; and what plans and inline caches answer is cheap
 pub record Does {P : Type 0} (went : P → List Access → List Access → P → Type 0) (old : Standing P) (command : Command) (answer : Answer) (new : Standing P) : Type 0 where
   pub served : IsServed command
   pub answers : AnswersPlainly (plain_of old) command answer (plain_of new)
   pub kept : IsTrueReply new.objects command answer.reply
   pub used : Used went old.objects (is_accepted (plain_of old) command) command (did_in (act_in (plain_of old) command)) new.objects
   pub stands : Stands new.objects
-  pub sites : new.sites ≡ sites_by used.ready old.sites command
-  pub jobs : Works (is_accepted_job (plain_of old) command) old.objects old.sites old.compiler command new.objects new.compiler (lines_since old new)
-  pub cheap : IsCheap old.objects used.ready old.sites command new.objects
+  pub chosen : Chosen
+  pub chooses : Chooses used.ready old.sites command chosen
+  pub sites : AreSitesAfter used.ready old.sites command chosen new.objects new.sites
+  pub plans : AreUpheld new.objects new.sites
+  pub jobs : Works (is_accepted_job (plain_of old) command) old.objects old.sites old.compiler command new.objects new.sites new.compiler (lines_since old new)
+  pub cheap : IsCheap old.objects used.ready old.sites command chosen new.objects
   pub logs : Logs old used.ready command new
   pub log_is : answer.log ≡ log_text (lines_since old new)
+  pub going : new.lacking ≡ false
 
 -- the answer that leads from one state of a session to a later one
 abbrev pub answer_since : {P : Type 0} → Standing P → Reply → Standing P → Answer
@@ -110,11 +131,16 @@ abbrev pub did_in_want : Command → Did
 did_in_want (Keys o) = Nothing
 did_in_want command = Moved
 
--- the sites after a command that lacked memory: as they were; or an access had its receiver migrated, and has noted its map
-abbrev pub NotedInWant : {P : Type 0} → (P → List Access → List Access → P → Type 0) → ObjectsState P → List SiteState → Command → List SiteState → Type 0
-NotedInWant {P} went a sites command now =
-    (now ≡ sites)
-    ⊎ ((ready : ObjectsState P) × AreReadied went a (uses_if (is_accepted (plain_with a sites) command) command) ready × (now ≡ sites_in_want ready sites command))
+-- the sites and the log after a command that lacked memory: as they were; or an access had its receiver migrated, plans were discarded
+-- that this broke, with their lines, and it has noted the receiver's map
+pub record HasNoted {P : Type 0} (ready : ObjectsState P) (sites : List SiteState) (log : List (ℕ × Line)) (command : Command) (sites_now : List SiteState) (log_now : List (ℕ × Line)) : Type 0 where
+  pub sites_are : sites_now ≡ sites_in_want ready sites command
+  pub lines_are : log_now ≡ log ++ lines_ready ready sites command
+
+abbrev pub NotedInWant : {P : Type 0} → (P → List Access → List Access → P → Type 0) → ObjectsState P → List SiteState → List (ℕ × Line) → Command → List SiteState → List (ℕ × Line) → Type 0
+NotedInWant {P} went a sites log command sites_now log_now =
+    ((sites_now ≡ sites) × (log_now ≡ log))
+    ⊎ ((ready : ObjectsState P) × AreReadied went a (uses_if (is_accepted (plain_with a sites) command) command) ready × HasNoted ready sites log command sites_now log_now)
 
 -- nothing changed
 pub record IsAsBefore {P : Type 0} (old new : Standing P) : Type 0 where
@@ -125,12 +151,11 @@ pub record IsAsBefore {P : Type 0} (old new : Standing P) : Type 0 where
   pub marks : new.marks ≡ old.marks
 
 -- a command got its mark, and then lacked memory: some of the objects that it uses were migrated, objects moved at most, and an access
--- may have noted a map
+-- may have discarded plans and noted a map. Of plans nothing else is said, and no command follows
 pub record HasMark {P : Type 0} (went : P → List Access → List Access → P → Type 0) (old : Standing P) (command : Command) (new : Standing P) : Type 0 where
   pub moves : MovesInWant went old.objects (uses_if (is_accepted (plain_of old) command) command) new.objects
-  pub sites : NotedInWant went old.objects old.sites command new.sites
+  pub noted : NotedInWant went old.objects old.sites old.log command new.sites new.log
   pub compiler : new.compiler ≡ old.compiler
-  pub log : new.log ≡ old.log
   pub mark : new.marks ≡ old.marks ++ mark_of old ∷ []
 
 -- what a command leaves that lacked memory: there was none for its mark and its lines of the log, or it has its mark

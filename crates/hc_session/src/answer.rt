@@ -1,4 +1,4 @@
-ghost use Rattle.std.specs.Prelude.{◌≡◌, ◌+◌, ◌-◌, ◌<◌, ◌≤◌, ◌^◌, [], length, OnOk, IsErrOf};
+ghost use Rattle.std.specs.Prelude.{◌≡◌, ◌+◌, ◌-◌, ◌<◌, ◌≤◌, ◌^◌, [], false, length, OnOk, IsErrOf};
 ghost use Rattle.hc_names.specs.declared.TheConstants.{MAX_NAMES};
 ghost use Rattle.hc_lines.specs.Outside.{AppendsBytes, Rose};
 ghost use Rattle.hc_commands.specs.Numbers.{IsCommandBelow};
@@ -38,6 +38,7 @@ pub fn answer<K: Sink>(
     requires sites { length session.old.sites < 2 ^ 32 - 1 }
     requires jobs { session.old.compiler.started < 2 ^ 32 - 1 }
     requires own { session.old.compiler.lent ≡ [] }
+    requires going { session.old.lacking ≡ false }
     ensures ok { OnOk result (AnswersCommand session.old names.now command.now session.new
         (K.taken sink.old) (K.taken sink.new)) }
     ensures world { OnOk result (IsNamedWorld (length names.now) (world_of session.new.objects)) }
@@ -45,6 +46,7 @@ pub fn answer<K: Sink>(
     ensures sites { OnOk result (length session.new.sites ≤ length session.old.sites + 1) }
     ensures jobs { OnOk result (session.new.compiler.started ≤ session.old.compiler.started + 1) }
     ensures own { OnOk result (session.new.compiler.lent ≡ []) }
+    ensures going { OnOk result (session.new.lacking ≡ false) }
     ensures memory { IsErrOf result Halt.Memory → K.taken sink.new ≡ K.taken sink.old }
     ensures want { IsErrOf result Halt.Memory → LacksMemory session.old command.now session.new }
     ensures write { IsErrOf result Halt.Write → AnswersPartly session.old names.now command.now session.new

@@ -2,11 +2,13 @@
 #![tactic(auto)]
 
 mod answer;
+mod asking;
 mod begun;
 mod exec;
 mod jobs;
 mod pace;
 mod perform;
+mod plans;
 mod refusal;
 mod render;
 mod replaying;

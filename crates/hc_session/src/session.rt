@@ -15,12 +15,17 @@ use crate::begun::{Begun, begin};
 use crate::serve::attend;
 use hc_access::entries_stay_good;
 use hc_compiler::Compiler;
-use hc_heap::Pace;
+use hc_heap::{Pace, forms_are_kept};
+use hc_installed::{
+    breaks_are_first, installed_are_right, new_sites_have_no_plan, plans_are_few,
+    quiet_breaks_no_plan,
+};
 use hc_layout::{Region, Shape};
-use hc_objects::{Objects, fields_stay_honest};
+use hc_objects::{Objects, fields_stay_honest, prototypes_stay_calm};
 use hc_report::{Log, Mark, Marks};
 use hc_script::Command;
 use hc_sites::Sites;
+use hc_soundness::{borne_names_live, objects_rest};
 use hc_value::{Memory, Reply};
 use std::alloc::Global;
 use std::marker::Model;
@@ -35,6 +40,7 @@ pub struct Session<P: Pace> {
     marks: Marks,
     shape: Shape,
     fresh: bool,
+    lacking: bool,
     alloc: Global,
 }
 
@@ -45,9 +51,9 @@ impl<P: Pace> Model for Session<P> {
 
     ghost use Rattle.hc_session.specs.Fresh.{IsSession};
 
-    ghost view = { λ s. record { objects = s.objects; sites = s.sites; compiler = s.compiler; log = s.log.lines; marks = s.marks; fresh = s.fresh } };
+    ghost view = { λ s. record { objects = s.objects; sites = s.sites; compiler = s.compiler; log = s.log.lines; marks = s.marks; fresh = s.fresh; lacking = s.lacking } };
 
-    ghost invariant = { λ s. IsSession s.shape (record { objects = s.objects; sites = s.sites; compiler = s.compiler; log = s.log.lines; marks = s.marks; fresh = s.fresh }) };
+    ghost invariant = { λ s. IsSession s.shape (record { objects = s.objects; sites = s.sites; compiler = s.compiler; log = s.log.lines; marks = s.marks; fresh = s.fresh; lacking = s.lacking }) };
 }
 
 impl Session<Scripted> {
@@ -68,6 +74,7 @@ impl Session<Scripted> {
             marks: Marks::new(alloc),
             shape,
             fresh: true,
+            lacking: false,
             alloc,
         })
     }
@@ -83,8 +90,9 @@ impl<P: Pace> Session<P> {
     }
 
     /// Performs a command. After want of memory the tables are as they were; how they are kept may have moved, and an access of a
-    /// site may have noted a map there.
+    /// site may have noted a map there, and discarded plans. No command is performed then any more.
     pub fn command(&mut self, command: &Command) -> Result<Reply, Memory>
+        requires going { self.old.lacking ≡ false }
         requires served { IsServed command.now }
         requires numbers { HasNumbers command.now }
         requires room { HasSiteNumber (length self.old.sites) command.now }
@@ -94,12 +102,23 @@ impl<P: Pace> Session<P> {
         ensures wants { OnErr result (Wants P.went self.old command.now self.new) }
         ensures stands { Stands self.new.objects }
         ensures constants { ConstantsStay self.old.objects.heap.view.trail self.new.objects.heap.view.trail }
+        ensures going { OnOk result (self.new.lacking ≡ false) }
         ensures fresh { self.new.fresh ≡ false }
     {
+        breaks_are_first();
+        quiet_breaks_no_plan();
+        new_sites_have_no_plan();
+        objects_rest();
+        installed_are_right();
+        borne_names_live();
+        forms_are_kept();
+        prototypes_stay_calm::<P>();
+        plans_are_few();
         self.objects.stands();
         self.fresh = false;
+        self.lacking = true;
         put_mark(&self.objects, &self.sites, &mut self.log, &mut self.marks)?;
-        let reply = attend(
+        let served = attend(
             &mut self.objects,
             &mut self.sites,
             &mut self.compiler,
@@ -109,7 +128,16 @@ impl<P: Pace> Session<P> {
             self.alloc,
         );
         self.objects.stands();
-        reply
+        let reply = served?;
+        self.lacking = false;
+        Ok(reply)
+    }
+
+    /// Whether a command lacked memory, after which none is performed.
+    pub fn lacking(&self) -> bool
+        ensures { result ≡ self.now.lacking }
+    {
+        self.lacking
     }
 
     /// Asks for a job of a site, which its caller has from then on: the job, which is new, and a reader that begins here. It gets the
@@ -119,6 +147,7 @@ impl<P: Pace> Session<P> {
         ensures begins { IfOk result (λ begun. Begins self.old s begun self.new) }
         ensures wants { OnErr result (WantsToBegin self.old self.new) }
         ensures stands { Stands self.new.objects }
+        ensures going { self.new.lacking ≡ self.old.lacking }
         ensures fresh { self.new.fresh ≡ false }
     {
         self.objects.stands();
@@ -194,7 +223,7 @@ fn put_mark<P: Pace>(
     marks: &mut Marks,
 ) -> Result<(), Memory>
     ensures ok { OnOk result (marks.new ≡ marks.old ++ mark_at objects.now log.old.lines ∷ []) }
-    ensures room { OnOk result (0 < log.new.room) }
+    ensures room { OnOk result (length sites.now < log.new.room) }
     ensures err { OnErr result (marks.new ≡ marks.old) }
     ensures lines { log.new.lines ≡ log.old.lines }
 {

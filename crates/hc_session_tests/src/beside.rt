@@ -208,6 +208,7 @@ fn perform_both(
     requires few { plain.old.limit ≤ NUMBER_LIMIT }
     ensures limit { plain.new.limit ≡ plain.old.limit }
 {
+    assert!(rt; !session.lacking());
     let reply = session.command(command)?;
     let expected = perform_on_tables(plain, command, alloc)?;
     assert!(rt; are_same(&reply, &expected));

@@ -7,6 +7,7 @@ use std::test::Fail;
 
 fn declare(rt: &impl Abort, session: &mut Session<Scripted>) -> Result<(), Fail> {
     assert!(rt; session.sites() < u32::MAX);
+    assert!(rt; !session.lacking());
     let reply = session.command(&Command::Declare(Op::Load, 0))?;
     assert!(rt; matches!(reply, Reply::Site(0)));
     Ok(())

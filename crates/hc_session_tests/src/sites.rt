@@ -16,6 +16,7 @@ fn declare(
     number: u32,
 ) -> Result<(), Fail> {
     assert!(rt; session.sites() < u32::MAX);
+    assert!(rt; !session.lacking());
     let reply = session.command(&Command::Declare(op, 0))?;
     assert!(rt; matches!(reply, Reply::Site(n) if n == number));
     Ok(())
@@ -68,6 +69,7 @@ fn declare_three(
 }
 
 fn make(rt: &impl Abort, session: &mut Session<Scripted>) -> Result<(), Fail> {
+    assert!(rt; !session.lacking());
     let made = session.command(&Command::New(None))?;
     assert!(rt; matches!(made, Reply::Object(0)));
     Ok(())

@@ -1,7 +1,10 @@
-use Rattle.std.proofs.Common.{◌∙◌, ap}
+use Rattle.std.proofs.Common.{◌≡◌, ◌∙◌, Option, ap, subst, sym}
+use Rattle.std.specs.Prelude.{IsSomeAnd, option_map}
 use Rattle.hc_board.specs.States.{ReaderState}
 use Rattle.hc_jobs.specs.declared.reads.Reads.TheVariants.{All}
 use Rattle.hc_jobs.specs.declared.table.OpenJob.{OpenJob}
+use Rattle.hc_planner.specs.Jobs.{JobState}
+use Rattle.hc_compiler.specs.Jobs.{opening_of}
 use Rattle.hc_compiler.proofs.Batching.{board-after}
 use Rattle.hc_compiler.proofs.Stepping.{ended, finishes, reading-left}
 use Rattle.hc_compiler.proofs.batches.finish_job.Goals as goal
@@ -42,3 +45,8 @@ returns-clause-reading g c =
     c.args.jobs.now c.args.j x c.read_on-reader.new.job c.read_on-reader.result c.requires.there c.take-job.ensures.pair c.read_on-reader.ensures.met c.read_on-reader.ensures.reads c.read_on-reader.ensures.same
     c.finish-finished.result.reader c.finish-finished.ensures.reader c.meet.ensures.met c.take-job.new.self c.take-job.ensures.rest
     c.take-job.ensures.gone c.requires.reading
+
+pub returns-clause-site : goal.returns-clause-site
+returns-clause-site g c =
+    subst (λ (o : Option OpenJob). IsSomeAnd (option_map opening_of o) (λ given. c.finish-finished.result.site ≡ given.site)) (sym c.take-job.ensures.pair)
+    (c.finish-finished.ensures.site ∙ ap (λ (job : JobState). job.site) c.read_on-reader.ensures.same)

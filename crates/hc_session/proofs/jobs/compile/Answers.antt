@@ -1,5 +1,6 @@
 use Rattle.std.proofs.Common.{◌<◌, ◌≤◌, length, arith}
 use Rattle.hc_session.proofs.Entered.{compile-full, compile-nowhere, compiled}
+use Rattle.hc_session.proofs.Rested.{started-opened-at, started-planned-at}
 use Rattle.hc_session.proofs.jobs.compile.Goals as goal
 
 pub returns-then-s-len-clause-serves : goal.returns-then-s-len-clause-serves
@@ -24,3 +25,13 @@ returns-clause-serves g c log =
 
 pub returns-clause-reading : goal.returns-clause-reading
 returns-clause-reading g c = c.start.ensures.reading c.requires.reading
+
+pub returns-clause-planned : goal.returns-clause-planned
+returns-clause-planned g c =
+    let lt : c.args.s < length c.args.sites.now = omega (arith, c.if-s-len.false, c.len.ensures) in
+    started-planned-at c.args.objects.now c.start.new.objects c.args.sites.now c.args.compiler.now.jobs c.start.new.self.jobs c.args.compiler.now.started c.args.s lt c.in_ok-number.ensures.starts c.start.ensures.same c.requires.planned
+
+pub returns-clause-opened : goal.returns-clause-opened
+returns-clause-opened g c =
+    let lt : c.args.s < length c.args.sites.now = omega (arith, c.if-s-len.false, c.len.ensures) in
+    started-opened-at c.args.objects.now c.args.sites.now c.args.compiler.now.jobs c.start.new.self.jobs c.args.compiler.now.started c.args.s lt c.in_ok-number.ensures.starts c.requires.opened

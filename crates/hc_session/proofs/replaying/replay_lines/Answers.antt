@@ -34,6 +34,9 @@ answer-requires-clause-jobs g c = omega (arith, c.commands.invariant.jobs, c.com
 pub answer-requires-clause-own : goal.answer-requires-clause-own
 answer-requires-clause-own g c = c.commands.invariant.own
 
+pub answer-requires-clause-going : goal.answer-requires-clause-going
+answer-requires-clause-going g c = c.commands.invariant.enough
+
 pub commands-smaller : goal.commands-smaller
 commands-smaller g c =
     let took = rw c.in-Ok-Some.field-0-is at (c.in-Ok-Some.ensures.serves c.commands.invariant.going) in
@@ -52,6 +55,7 @@ commands-preserved g c =
       sites = omega (arith, c.commands.invariant.sites, c.in-Ok.ensures.sites, command_moves _ _ _ _ _ took);
       jobs = omega (arith, c.commands.invariant.jobs, c.in-Ok.ensures.jobs, command_moves _ _ _ _ _ took);
       own = c.in-Ok.ensures.own;
+      enough = c.in-Ok.ensures.going;
       reads = omega (arith, c.commands.invariant.reads, c.in-Ok-Some.ensures.grows);
       writes = omega (arith, c.commands.invariant.writes, c.in-Ok.ensures.grows);
     }
@@ -94,6 +98,7 @@ commands-init g c = record {
   sites = omega (arith, ap (λ (xs : List SiteState). length xs) c.requires.untouched.sites);
   jobs = omega (arith, ap (λ (x : Compiling). x.started) c.requires.untouched.compiler);
   own = ap (λ (x : Compiling). x.lent) c.requires.untouched.compiler;
+  enough = c.requires.untouched.going;
   reads = omega arith;
   writes = omega arith;
 }

@@ -1,4 +1,4 @@
-use Rattle.std.proofs.Common.{◌≡◌, ◌≤◌, ◌-◌, [], length}
+use Rattle.std.proofs.Common.{◌≡◌, ◌≤◌, ◌-◌, [], false, length}
 use Rattle.hc_objects.specs.Came.{world_of}
 use Rattle.hc_lines.specs.Lines.{ahead}
 use Rattle.hc_lines.specs.declared.limits.TheConstants.{MAX_BYTES}
@@ -26,6 +26,7 @@ invariant-commands g l =
       sites : length l.session.sites ≤ l.reader.at.bytes;
       jobs : l.session.compiler.started ≤ l.reader.at.bytes;
       own : l.session.compiler.lent ≡ [];
+      enough : l.session.lacking ≡ false;
       reads : g.S.Source.faults l.initial.source ≤ g.S.Source.faults l.source;
       writes : g.K.Sink.faults l.initial.sink ≤ g.K.Sink.faults l.sink;
     }

@@ -3,9 +3,12 @@ use Rattle.std.specs.Prelude.{OnErr}
 use Rattle.hc_modes.specs.State.{ObjectsState}
 use Rattle.hc_session.specs.Standing.{plain_among}
 use Rattle.hc_session.specs.Using.{MovesInWant, is_accepted, uses_if}
-use Rattle.hc_session.proofs.Keeps.{met-keeps-on, met-none}
+use Rattle.hc_session.proofs.Keeps.{met-keeps-on}
 use Rattle.hc_session.proofs.Obeys.{result_still}
-use Rattle.hc_session.proofs.Readers.{good-met}
+use Rattle.hc_session.proofs.Readers.{good-met, met-none}
+use Rattle.hc_value.specs.declared.word.TheConstants.{TEXT_LIMIT}
+use Rattle.hc_session.proofs.Readers.{seen-met}
+use Rattle.hc_session.proofs.Settled.{served-good, served-names, served-seen}
 use Rattle.hc_session.proofs.serve.attend.Goals as goal
 
 pub returns-in-Compile-clause-wants : goal.returns-in-Compile-clause-wants
@@ -26,5 +29,16 @@ returns-in-Step-clause-good g c = good-met c.args.objects.now c.step.new.objects
 pub returns-in-Finish-clause-keeps : goal.returns-in-Finish-clause-keeps
 returns-in-Finish-clause-keeps g c = met-keeps-on c.args.objects.now c.finish.new.objects c.stands.ensures.sound.heap.lawful c.finish.ensures.met
 
+pub returns-in-Finish-clause-names : goal.returns-in-Finish-clause-names
+returns-in-Finish-clause-names g c =
+    served-names c.args.objects.now c.args.sites.now c.args.compiler.now c.args.log.now.lines _ c.finish.result c.finish.new.objects c.finish.new.sites c.finish.new.compiler c.finish.new.log.lines c.finish.ensures.serves TEXT_LIMIT c.requires.names
+
 pub returns-in-Finish-clause-good : goal.returns-in-Finish-clause-good
-returns-in-Finish-clause-good g c = good-met c.args.objects.now c.finish.new.objects c.args.sites.now c.finish.ensures.met c.requires.good
+returns-in-Finish-clause-good g c =
+    served-good c.args.objects.now c.args.sites.now c.args.compiler.now c.args.log.now.lines _ c.finish.result c.finish.new.objects c.finish.new.sites c.finish.new.compiler c.finish.new.log.lines c.finish.ensures.serves
+    (good-met c.args.objects.now c.finish.new.objects c.args.sites.now c.finish.ensures.met c.requires.good)
+
+pub returns-in-Finish-clause-seen : goal.returns-in-Finish-clause-seen
+returns-in-Finish-clause-seen g c =
+    served-seen c.args.objects.now c.args.sites.now c.args.compiler.now c.args.log.now.lines _ c.finish.result c.finish.new.objects c.finish.new.sites c.finish.new.compiler c.finish.new.log.lines c.finish.ensures.serves
+    (seen-met c.args.objects.now c.finish.new.objects c.args.sites.now c.finish.ensures.met c.requires.seen)

@@ -3,7 +3,8 @@ use Rattle.std.proofs.Math.Nat.{le_refl}
 use Rattle.hc_jobs.specs.Opened.{is_open}
 use Rattle.hc_compiler.specs.Calls.{Finishes}
 use Rattle.hc_compiler.specs.Ends.{HasEnded}
-use Rattle.hc_compiler.specs.Jobs.{AreReading, Compiling}
+use Rattle.std.specs.Prelude.{IsSomeAnd}
+use Rattle.hc_compiler.specs.Jobs.{AreReading, Compiling, opening_at}
 use Rattle.hc_compiler.proofs.Numbered.{numbered-after}
 use Rattle.hc_compiler.proofs.compiler.Compiler.finish.Goals as goal
 
@@ -25,7 +26,7 @@ pub returns-clause-finishes : goal.returns-clause-finishes
 returns-clause-finishes g c = subst (λ (k : Compiling). Finishes c.args.objects.now k.jobs c.args.j c.finish_job.new.objects c.finish_job.new.jobs) c.self.view_is c.finish_job.ensures.finishes
 
 pub returns-clause-ended : goal.returns-clause-ended
-returns-clause-ended g c = subst (λ (k : Compiling). HasEnded k.jobs c.args.j c.finish_job.result c.finish_job.new.objects) c.self.view_is c.finish_job.ensures.ended
+returns-clause-ended g c = subst (λ (k : Compiling). HasEnded k.jobs c.args.j c.finish_job.result.outcome c.finish_job.new.objects) c.self.view_is c.finish_job.ensures.ended
 
 pub returns-clause-started : goal.returns-clause-started
 returns-clause-started g c = ap (λ (k : Compiling). k.started) c.self.view_is
@@ -35,3 +36,6 @@ returns-clause-lent g c = ap (λ (k : Compiling). k.lent) c.self.view_is
 
 pub returns-clause-reading : goal.returns-clause-reading
 returns-clause-reading g c = c.finish_job.ensures.reading
+
+pub returns-clause-site : goal.returns-clause-site
+returns-clause-site g c = subst (λ (k : Compiling). IsSomeAnd (opening_at k.jobs c.args.j) (λ given. c.finish_job.result.site ≡ given.site)) c.self.view_is c.finish_job.ensures.site

@@ -11,6 +11,8 @@ invariant_of-self-2 g c = record {
   good = rw c.begin-begun.ensures.same c.self.invariant.good;
   seen = rw c.begin-begun.ensures.same c.self.invariant.seen;
   reading = rw c.begin-begun.ensures.same (rw c.begin-begun.ensures.jobs c.self.invariant.reading);
+  opened = rw c.begin-begun.ensures.jobs c.self.invariant.opened;
+  planned = λ going. rw c.begin-begun.ensures.same (rw c.begin-begun.ensures.jobs (c.self.invariant.planned going));
 }
 
 pub returns-clause-stands : goal.returns-clause-stands
